@@ -1,5 +1,6 @@
 // The class of each code.
 ghost use mathlib.Core.Path.{_≡_};
+ghost use Prim.Native.Nat.{_<_};
 ghost use Rattle.codes.specs.Classes.{class-of};
 use Class::Control;
 use Class::Data;
@@ -146,15 +147,19 @@ static CLASSES: [Class; 128] = [
     Control,
 ];
 
+// The table's class of one of the 128 codes.
+fn listed(code: u8) -> Class
+    requires { ⌜ code < 128 ⌝ }
+    ensures { λ r. ⌜ r ≡ class-of code ⌝ }
+{
+    CLASSES[code as usize]
+}
+
 impl Class {
     // The class of a code. An octet of 80 or more is no code, and counts as a control without a rule.
     pub fn of(code: u8) -> Class
         ensures { λ r. ⌜ r ≡ class-of code ⌝ }
     {
-        if code < 0x80 {
-            CLASSES[code as usize]
-        } else {
-            Control
-        }
+        if code < 0x80 { listed(code) } else { Control }
     }
 }

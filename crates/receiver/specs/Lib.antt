@@ -1,0 +1,5 @@
+pub mod Check
+pub mod Numbers
+pub mod Receiving
+pub mod Meaning
+pub mod Hearing
