@@ -1,0 +1,4 @@
+pub mod Offsets
+pub mod Meaning
+pub mod Replies
+pub mod Shown

@@ -1,0 +1,137 @@
+// The words of a script, from any reader in one pass, with a fixed amount of memory.
+ghost use mathlib.Core.Path.{_≡_};
+ghost use Prim.Native.Nat.{_≤_};
+ghost use lib.ListN.{length};
+use std::io;
+use std::io::Read;
+
+// What comes next. Blank lines have an end too; the last line may want its LF.
+#[derive(Clone, Copy, PartialEq, Eq, Debug)]
+pub enum Token {
+    Word,
+    LineEnd,
+    End,
+}
+
+const CHUNK: usize = 65536;
+
+// Longer words are cut, and are no word that a script knows.
+const LONGEST: usize = 64;
+
+// The octets buffer[at..end] are read and not yet taken; word[0..len] is the last word.
+#[derive(Drop)]
+pub struct Words<R> {
+    reader: R,
+    buffer: [u8; CHUNK],
+    at: usize,
+    end: usize,
+    word: [u8; LONGEST],
+    len: usize,
+    line: u64,
+    line_ended: bool,
+    ghost order: { at ≤ end },
+    ghost within: { end ≤ 65536 },
+    ghost fits: { len ≤ 64 },
+}
+
+impl<R: Read> Words<R> {
+    pub fn new(reader: R) -> Words<R> {
+        Words {
+            reader,
+            buffer: [0; CHUNK],
+            at: 0,
+            end: 0,
+            word: [0; LONGEST],
+            len: 0,
+            line: 1,
+            line_ended: false,
+        }
+    }
+
+    // The number of the last token's line, from 1.
+    pub fn line(&self) -> u64 {
+        self.line
+    }
+
+    // The last word.
+    pub fn word(&self) -> &[u8] {
+        &self.word[0..self.len]
+    }
+
+    // The next octet, which stays; None at the end of the input.
+    fn peek(&mut self) -> io::Result<Option<u8>> {
+        if self.at == self.end {
+            self.at = 0;
+            self.end = 0;
+            let n = self.reader.read(&mut self.buffer)?;
+            self.end = n;
+            if n == 0 {
+                return Ok(None);
+            }
+        }
+        Ok(Some(self.buffer[self.at]))
+    }
+
+    fn advance(&mut self) {
+        if self.at < self.end {
+            self.at += 1;
+        }
+    }
+
+    // Skips blanks and a comment, up to a word, an LF or the end.
+    fn skip(&mut self) -> io::Result<Option<u8>> {
+        let mut comment = false;
+        for _ in 0..u64::MAX {
+            match self.peek()? {
+                Some(b'\n') => return Ok(Some(b'\n')),
+                Some(b'#') => comment = true,
+                Some(b' ' | b'\t' | b'\r') => {}
+                Some(byte) if !comment => return Ok(Some(byte)),
+                Some(_) => {}
+                None => break,
+            }
+            self.advance();
+        }
+        Ok(None)
+    }
+
+    // Takes the word that begins here.
+    fn take_word(&mut self) -> io::Result<()> {
+        self.len = 0;
+        for _ in 0..u64::MAX {
+            match self.peek()? {
+                None | Some(b' ' | b'\t' | b'\r' | b'\n' | b'#') => break,
+                Some(byte) => self.keep(byte),
+            }
+            self.advance();
+        }
+        Ok(())
+    }
+
+    fn keep(&mut self, byte: u8) {
+        if self.len < LONGEST {
+            self.word[self.len] = byte;
+            self.len += 1;
+        }
+    }
+
+    // The next token; `word` then has the word, and `line` its line.
+    pub fn next(&mut self) -> io::Result<Token> {
+        if self.line_ended {
+            self.line = self.line.saturating_add(1);
+            self.line_ended = false;
+        }
+        match self.skip()? {
+            None => Ok(Token::End),
+            Some(b'\n') => {
+                self.advance();
+                self.line_ended = true;
+                Ok(Token::LineEnd)
+            }
+            Some(_) => {
+                self.take_word()?;
+                Ok(Token::Word)
+            }
+        }
+    }
+}
