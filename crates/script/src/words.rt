@@ -2,6 +2,10 @@
 ghost use mathlib.Core.Path.{_≡_};
 ghost use Prim.Native.Nat.{_≤_};
 ghost use lib.ListN.{length};
+use crate::error::Problem;
+use crate::error::RunError;
+use crate::error::ScriptError;
+use crate::word::Word;
 use std::io;
 use std::io::Read;
 
@@ -15,23 +19,18 @@ pub enum Token {
 
 const CHUNK: usize = 65536;
 
-// Longer words are cut, and are no word that a script knows.
-const LONGEST: usize = 64;
-
-// The octets buffer[at..end] are read and not yet taken; word[0..len] is the last word.
+// The octets buffer[at..end] are read and not yet taken.
 #[derive(Drop)]
 pub struct Words<R> {
     reader: R,
     buffer: [u8; CHUNK],
     at: usize,
     end: usize,
-    word: [u8; LONGEST],
-    len: usize,
+    word: Word,
     line: u64,
     line_ended: bool,
     ghost order: { at ≤ end },
     ghost within: { end ≤ 65536 },
-    ghost fits: { len ≤ 64 },
 }
 
 impl<R: Read> Words<R> {
@@ -41,8 +40,7 @@ impl<R: Read> Words<R> {
             buffer: [0; CHUNK],
             at: 0,
             end: 0,
-            word: [0; LONGEST],
-            len: 0,
+            word: Word::new(),
             line: 1,
             line_ended: false,
         }
@@ -54,8 +52,17 @@ impl<R: Read> Words<R> {
     }
 
     // The last word.
-    pub fn word(&self) -> &[u8] {
-        &self.word[0..self.len]
+    pub fn word(&self) -> &Word {
+        &self.word
+    }
+
+    // What is wrong with the last word, or with the line where it ends.
+    pub fn error(&self, problem: Problem) -> RunError {
+        RunError::Script(ScriptError {
+            line: self.line,
+            word: self.word,
+            problem,
+        })
     }
 
     // The next octet, which stays; None at the end of the input.
@@ -97,22 +104,15 @@ impl<R: Read> Words<R> {
 
     // Takes the word that begins here.
     fn take_word(&mut self) -> io::Result<()> {
-        self.len = 0;
+        self.word = Word::new();
         for _ in 0..u64::MAX {
             match self.peek()? {
                 None | Some(b' ' | b'\t' | b'\r' | b'\n' | b'#') => break,
-                Some(byte) => self.keep(byte),
+                Some(byte) => self.word.push(byte),
             }
             self.advance();
         }
         Ok(())
-    }
-
-    fn keep(&mut self, byte: u8) {
-        if self.len < LONGEST {
-            self.word[self.len] = byte;
-            self.len += 1;
-        }
     }
 
     // The next token; `word` then has the word, and `line` its line.
@@ -122,8 +122,12 @@ impl<R: Read> Words<R> {
             self.line_ended = false;
         }
         match self.skip()? {
-            None => Ok(Token::End),
+            None => {
+                self.word = Word::new();
+                Ok(Token::End)
+            }
             Some(b'\n') => {
+                self.word = Word::new();
                 self.advance();
                 self.line_ended = true;
                 Ok(Token::LineEnd)
