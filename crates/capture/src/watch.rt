@@ -7,7 +7,7 @@ ghost use Rattle.line.specs.Octet.{wanted};
 ghost use Rattle.receiver.specs.Receiving.{State, idle, count, Next};
 ghost use Rattle.receiver.specs.Meaning.{state-of, message-of};
 ghost use Rattle.receiver.specs.Hearing.{hear};
-ghost use Rattle.capture.specs.Offsets.{Place, placed, new-place};
+ghost use Rattle.capture.specs.Offsets.{Place, placed, new-place, under-way};
 ghost use Rattle.capture.specs.Meaning.{place-of};
 use line::Line;
 use receiver::fault::Fault;
@@ -107,7 +107,18 @@ impl<L: Line> Capture<L> {
         self.offsets.begun
     }
 
-    // How many characters are kept of an unfinished message.
+    // The offset of the SOH of the message that is not yet over.
+    pub fn unfinished(&self) -> Option<u64>
+        ensures { λ r. ⌜ r ≡ under-way (place-of (now (self .entry) .offsets)) ⌝ }
+    {
+        if self.offsets.over {
+            None
+        } else {
+            self.offsets.begun
+        }
+    }
+
+    // How many characters are kept of it.
     pub fn kept(&self) -> usize
         ensures { λ r. ⌜ r ≡ count (state-of (now (self .entry) .receiver)) ⌝ }
     {

@@ -72,14 +72,24 @@ impl Listing {
         writeln!(out, " fault {number} {layer} kept {kept}: {why}")
     }
 
-    // The summary of a capture, in which a message may be unfinished.
-    pub fn summary<W: Write>(&self, out: &mut W, octets: u64, kept: usize) -> io::Result<()> {
+    // The end of a capture, in which a message may be unfinished.
+    pub fn summary<W: Write>(
+        &self,
+        out: &mut W,
+        octets: u64,
+        unfinished: Option<u64>,
+        kept: usize,
+    ) -> io::Result<()> {
         let messages = self.messages;
         let faults = self.faults;
-        writeln!(
+        write!(
             out,
-            "summary octets {octets} messages {messages} faults {faults} unfinished {kept}"
-        )
+            "summary octets {octets} messages {messages} faults {faults}"
+        )?;
+        if let Some(offset) = unfinished {
+            write!(out, " unfinished offset {offset} kept {kept}")?;
+        }
+        out.write_all(b"\n")
     }
 }
 
@@ -127,7 +137,8 @@ fn call<W: Write>(out: &mut W, code: u8) -> io::Result<()> {
 // A text in quotes. A backslash stands before a quote, a backslash and the two digits of a code that does not print.
 fn text<W: Write>(out: &mut W, characters: &[u8]) -> io::Result<()> {
     let count = characters.len();
-    write!(out, " text of {count} characters \"")?;
+    let plural = if count == 1 { "" } else { "s" };
+    write!(out, " text of {count} character{plural} \"")?;
     for character in characters {
         match *character {
             b'"' | b'\\' => out.write_all(&[b'\\', *character])?,

@@ -41,8 +41,9 @@ fn line<R: Read, W: Write>(
         b"monitor" => {
             session.close(out, report)?;
             session.open(line_choice(words)?);
-            report.begin();
-            end(words)
+            end(words)?;
+            report.begin(out)?;
+            Ok(())
         }
         b"octets" => octets(words, session, report, out),
         b"send" => send(words, session, out),

@@ -35,9 +35,13 @@ pub enum Report {
 
 impl Report {
     // A new capture begins.
-    pub fn begin(&mut self) {
-        if let Report::Listing(listing) = self {
-            *listing = Listing::new();
+    pub fn begin<W: Write>(&mut self, out: &mut W) -> io::Result<()> {
+        match self {
+            Report::Octets => out.write_all(b"monitor ok\n"),
+            Report::Listing(listing) => {
+                *listing = Listing::new();
+                Ok(())
+            }
         }
     }
 }
@@ -58,6 +62,14 @@ fn hear<L: Line, W: Write>(
             Err(fault) => listing.fault(out, capture.begun(), &fault),
         },
     }
+}
+
+fn close<L: Line, W: Write>(
+    capture: &Capture<L>,
+    out: &mut W,
+    listing: &Listing,
+) -> io::Result<()> {
+    listing.summary(out, capture.octets(), capture.unfinished(), capture.kept())
 }
 
 impl Session {
@@ -110,16 +122,8 @@ impl Session {
         };
         match self.choice {
             Choice::Closed => Ok(()),
-            Choice::Synchronous => listing.summary(
-                out,
-                self.synchronous.octets(),
-                self.synchronous.kept(),
-            ),
-            Choice::Asynchronous => listing.summary(
-                out,
-                self.asynchronous.octets(),
-                self.asynchronous.kept(),
-            ),
+            Choice::Synchronous => close(&self.synchronous, out, listing),
+            Choice::Asynchronous => close(&self.asynchronous, out, listing),
         }
     }
 }

@@ -1,5 +1,10 @@
 // One word of a script.
-ghost use Prim.Native.Nat.{_≤_};
+ghost use mathlib.Core.Path.{_≡_};
+ghost use mathlib.Core.Bool.{cond};
+ghost use mathlib.Core.List.{[], _∷_, _++_};
+ghost use Prim.Native.Nat.{_<_, _≤_};
+ghost use lib.Dec.{ltb};
+ghost use lib.ListN.{take, length};
 use std::fmt;
 
 // Longer words are cut here, and are no word that a script knows.
@@ -11,24 +16,39 @@ pub struct Word {
     characters: [u8; LONGEST],
     len: usize,
     ghost fits: { len ≤ 64 },
+    ghost room: { length characters ≡ 64 },
 }
 
 impl Word {
-    pub fn new() -> Word {
+    pub fn new() -> Word
+        ensures { λ r. ⌜ take (r .len) (r .characters) ≡ [] ⌝ }
+    {
         Word {
             characters: [0; LONGEST],
             len: 0,
         }
     }
 
-    pub fn push(&mut self, character: u8) {
+    // One character more, while the word is no longer than 64.
+    pub fn push(&mut self, character: u8)
+        ensures { λ _. ⌜ take (now (self .exit) .len) (now (self .exit) .characters) ≡ cond (ltb (now (self .entry) .len) 64) (take (now (self .entry) .len) (now (self .entry) .characters) ++ (character ∷ [])) (take (now (self .entry) .len) (now (self .entry) .characters)) ⌝ }
+    {
         if self.len < LONGEST {
-            self.characters[self.len] = character;
-            self.len += 1;
+            self.append(character);
         }
     }
 
-    pub fn bytes(&self) -> &[u8] {
+    fn append(&mut self, character: u8)
+        requires { ⌜ now self .len < 64 ⌝ }
+        ensures { λ _. ⌜ take (now (self .exit) .len) (now (self .exit) .characters) ≡ take (now (self .entry) .len) (now (self .entry) .characters) ++ (character ∷ []) ⌝ }
+    {
+        self.characters[self.len] = character;
+        self.len += 1;
+    }
+
+    pub fn bytes(&self) -> &[u8]
+        ensures { λ r. ⌜ now r ≡ take (now (self .entry) .len) (now (self .entry) .characters) ⌝ }
+    {
         &self.characters[0..self.len]
     }
 }

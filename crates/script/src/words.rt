@@ -34,7 +34,9 @@ pub struct Words<R> {
 }
 
 impl<R: Read> Words<R> {
-    pub fn new(reader: R) -> Words<R> {
+    pub fn new(reader: R) -> Words<R>
+        ensures { λ r. ⌜ r .line ≡ 1 ⌝ }
+    {
         Words {
             reader,
             buffer: [0; CHUNK],
@@ -47,17 +49,23 @@ impl<R: Read> Words<R> {
     }
 
     // The number of the last token's line, from 1.
-    pub fn line(&self) -> u64 {
+    pub fn line(&self) -> u64
+        ensures { λ r. ⌜ r ≡ now (self .entry) .line ⌝ }
+    {
         self.line
     }
 
     // The last word.
-    pub fn word(&self) -> &Word {
+    pub fn word(&self) -> &Word
+        ensures { λ r. ⌜ now r ≡ now (self .entry) .word ⌝ }
+    {
         &self.word
     }
 
     // What is wrong with the last word, or with the line where it ends.
-    pub fn error(&self, problem: Problem) -> RunError {
+    pub fn error(&self, problem: Problem) -> RunError
+        ensures { λ r. ⌜ r ≡ RunError.Script (record { line = now (self .entry) .line; word = now (self .entry) .word; problem = problem }) ⌝ }
+    {
         RunError::Script(ScriptError {
             line: self.line,
             word: self.word,
