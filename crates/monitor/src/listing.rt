@@ -42,7 +42,7 @@ impl Listing {
     ) -> io::Result<()> {
         self.head(out, begun)?;
         self.messages = self.messages.saturating_add(1);
-        if characters.len() < 3 {
+        if characters.len() < 4 {
             out.write_all(b" codes")?;
             codes(out, characters)?;
         } else {
