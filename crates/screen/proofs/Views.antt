@@ -3,28 +3,42 @@ use Prim.Native.Nat.{ℕ, _*_, _≤_, _<_}
 use mathlib.Core.Path.{_≡_, refl, sym, _∙_, ap, subst}
 use mathlib.Core.List.{List}
 use mathlib.Core.Bool.{Bool, true, false, cond, _&&_}
-use mathlib.Core.Logic.{⊎-elim, _≢_}
+use mathlib.Core.Logic.{_⊎_, ⊎-elim, _≢_}
 use native.Mathlib.Omega.{arith}
 use lib.ListN.{length, getD, set}
-use Rattle.std.proofs.shelf.Tests.{lt-ltb, le-ltb, and-left, cond-false, cases-eq}
+use Rattle.std.proofs.shelf.Tests.{lt-ltb, le-ltb, and-left, and-right, cond-false, cases-eq}
 use Rattle.std.proofs.shelf.Lists.{ext-getD, length-set, getD-set-same, getD-set-other}
 use Rattle.std.specs.declared.result.Result.{Result}
+use Rattle.std.specs.declared.result.Result.the-variants.{Ok, Err}
 use Rattle.screen.specs.declared.refusal.Refusal.{Refusal}
+use Rattle.screen.specs.declared.refusal.Refusal.the-variants.{OffScreen}
 use Rattle.screen.specs.Cells.{Cell, cell, blank, storable}
-use Rattle.screen.specs.Grid.{Grid, with-cells, has-place, writable, written}
+use Rattle.screen.specs.Grid.{Grid, with-cells, has-place, writable, written, copied}
 use Rattle.screen.specs.Answers.{on-screen, done-if, parts, read-at}
 use Rattle.screen.specs.View.{table, view, Into, length-table, getD-table}
 
--- a place beyond n cells is refused
-pub off-place : (g : Grid) (p n : ℕ) → length (g .cells) ≡ n → n ≤ p → has-place g p ≡ false
+-- a place beyond n cells: a read and a write are refused, and nothing changes
+off-place : (g : Grid) (p n : ℕ) → length (g .cells) ≡ n → n ≤ p → has-place g p ≡ false
 off-place g p n e l = le-ltb p (length (g .cells)) (omega arith)
 
-pub off-write : (g : Grid) (p c n : ℕ) → length (g .cells) ≡ n → n ≤ p → writable g p c ≡ false
+off-write : (g : Grid) (p c n : ℕ) → length (g .cells) ≡ n → n ≤ p → writable g p c ≡ false
 off-write g p c n e l = and-left _ _ (off-place g p n e l)
 
--- what is not writable leaves the grid
-pub unwritten : (g : Grid) (p c : ℕ) (m : Bool) → writable g p c ≡ false → g ≡ written g p c m
-unwritten g p c m h = sym (ap (with-cells g) (cond-false (writable g p c) (set (g .cells) p (cell c m)) (g .cells) h))
+pub read-off : (g : Grid) (p n : ℕ) → length (g .cells) ≡ n → n ≤ p → Err OffScreen ≡ read-at g p
+read-off g p n e l = sym (ap (λ b. on-screen b (parts (getD (g .cells) p blank))) (off-place g p n e l))
+
+pub write-off : (g : Grid) (p c n : ℕ) → length (g .cells) ≡ n → n ≤ p → Err OffScreen ≡ done-if (writable g p c)
+write-off g p c n e l = sym (ap done-if (off-write g p c n e l))
+
+pub unwritten-off : (g : Grid) (p c : ℕ) (m : Bool) (n : ℕ) → length (g .cells) ≡ n → n ≤ p → g ≡ written g p c m
+unwritten-off g p c m n e l = sym (ap (with-cells g) (cond-false (writable g p c) (set (g .cells) p (cell c m)) (g .cells) (off-write g p c n e l)))
+
+-- a copy onto or from such a place
+pub copy-off : (g : Grid) (to from n : ℕ) → length (g .cells) ≡ n → (n ≤ to) ⊎ (n ≤ from) → (has-place g from && has-place g to) ≡ false
+copy-off g to from n e h = ⊎-elim (λ (l : n ≤ to). and-right _ _ (off-place g to n e l)) (λ (l : n ≤ from). and-left _ _ (off-place g from n e l)) h
+
+pub uncopied : (g : Grid) (to from : ℕ) → (has-place g from && has-place g to) ≡ false → g ≡ copied g to from
+uncopied g to from h = sym (ap (with-cells g) (cond-false (has-place g from && has-place g to) (set (g .cells) to (getD (g .cells) from blank)) (g .cells) h))
 
 view-place : (f : ℕ → ℕ) (h w : ℕ) (g : Grid) (p : ℕ) → Into f (h * w) (length (g .cells)) → p < h * w → has-place g (f p) ≡ has-place (view f h w g) p
 view-place f h w g p i l =
