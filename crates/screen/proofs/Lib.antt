@@ -1,0 +1,5 @@
+pub mod Answers
+pub mod Cells
+pub mod Rows
+pub mod Grids
+pub mod Views
