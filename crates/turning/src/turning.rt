@@ -34,6 +34,13 @@ impl<'s, S: Screen> Turning<'s, S> {
         let order = natural_order(rows);
         Turning { below, order }
     }
+
+    // The screen below, as it stands.
+    pub fn below(&self) -> &S
+        ensures { λ r. ⌜ now r ≡ now (now (self .entry) .below) ⌝ }
+    {
+        &*self.below
+    }
 }
 
 pub impl<'s, S: Screen> Screen for Turning<'s, S> as TurningScreen {

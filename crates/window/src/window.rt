@@ -35,6 +35,13 @@ impl<'s, S: Screen> Window<'s, S> {
             columns: extent.columns,
         }
     }
+
+    // The screen below, as it stands.
+    pub fn below(&self) -> &S
+        ensures { λ r. ⌜ now r ≡ now (now (self .entry) .below) ⌝ }
+    {
+        &*self.below
+    }
 }
 
 pub impl<'s, S: Screen> Screen for Window<'s, S> as WindowScreen {
