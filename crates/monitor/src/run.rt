@@ -5,7 +5,6 @@ use crate::session::Session;
 use script::error::Problem;
 use script::error::RunError;
 use script::error::RunErrorFromIoError;
-use script::hex;
 use script::words::Token;
 use script::words::Words;
 use std::io::Read;
@@ -41,7 +40,7 @@ fn line<R: Read, W: Write>(
         b"monitor" => {
             session.close(out, report)?;
             session.open(line_choice(words)?);
-            end(words)?;
+            words.end_line()?;
             report.begin(out)?;
             Ok(())
         }
@@ -61,25 +60,6 @@ fn line_choice<R: Read>(words: &mut Words<R>) -> Result<Choice, RunError> {
     }
 }
 
-// Nothing more may stand in the line.
-fn end<R: Read>(words: &mut Words<R>) -> Result<(), RunError> {
-    match words.next()? {
-        Token::Word => Err(words.error(Problem::LeftOver)),
-        Token::LineEnd | Token::End => Ok(()),
-    }
-}
-
-// The next octet of the line, until there is none.
-fn next_octet<R: Read>(words: &mut Words<R>) -> Result<Option<u8>, RunError> {
-    match words.next()? {
-        Token::Word => match hex::octet(words.word().bytes()) {
-            Some(octet) => Ok(Some(octet)),
-            None => Err(words.error(Problem::NoOctet)),
-        },
-        Token::LineEnd | Token::End => Ok(None),
-    }
-}
-
 fn octets<R: Read, W: Write>(
     words: &mut Words<R>,
     session: &mut Session,
@@ -90,7 +70,7 @@ fn octets<R: Read, W: Write>(
         return Err(words.error(Problem::NoLineYet));
     }
     for _ in 0..u64::MAX {
-        let Some(octet) = next_octet(words)? else {
+        let Some(octet) = words.next_octet()? else {
             break;
         };
         session.hear(out, report, octet)?;
@@ -107,7 +87,7 @@ fn send<R: Read, W: Write>(
         return Err(words.error(Problem::NoLineYet));
     }
     for _ in 0..u64::MAX {
-        let Some(code) = next_octet(words)? else {
+        let Some(code) = words.next_octet()? else {
             break;
         };
         session.send(out, code)?;

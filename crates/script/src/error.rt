@@ -8,23 +8,40 @@ use std::io;
 pub enum Problem {
     UnknownLine,
     NoLineYet,
+    NoScreenYet,
     NoLineKind,
+    NoScreenKind,
     NoOctet,
+    NoNumber,
+    NoMark,
+    NoSize,
+    TooManyLayers,
     LeftOver,
 }
 
 pub impl fmt::Display for Problem as ProblemDisplay {
     fn fmt<W: fmt::Write>(&self, f: &mut fmt::Formatter<W>) -> fmt::Result {
-        f.write_str(
-            match self {
-                Problem::UnknownLine => "no line that this program knows begins so",
-                Problem::NoLineYet =>
-                    "there is no line yet: write 'monitor sync' or 'monitor async' first",
-                Problem::NoLineKind => "after 'monitor' stands 'sync' or 'async'",
-                Problem::NoOctet => "no octet: two hexadecimal digits are wanted",
-                Problem::LeftOver => "left over: the line should end before it",
-            },
-        )
+        match self {
+            Problem::UnknownLine => f.write_str("no line that this program knows begins so"),
+            Problem::NoLineYet => f.write_str(
+                "there is no line yet: write 'monitor sync' or 'monitor async' first",
+            ),
+            Problem::NoLineKind => f.write_str("after 'monitor' stands 'sync' or 'async'"),
+            Problem::NoScreenYet => f.write_str(
+                "there is no screen yet: write a 'screen' line first",
+            ),
+            Problem::NoScreenKind => f.write_str(
+                "no screen: 'words', 'bits', 'turn' or 'window' is wanted",
+            ),
+            Problem::NoNumber => f.write_str("no number: at most nine decimal digits are wanted"),
+            Problem::NoMark => f.write_str("no protection mark: 0 or 1 is wanted"),
+            Problem::NoSize => f.write_str("no size: rows and columns are wanted, as 12x80"),
+            Problem::TooManyLayers => f.write_str(
+                "too many layers: at most four stand over a store",
+            ),
+            Problem::NoOctet => f.write_str("no octet: two hexadecimal digits are wanted"),
+            Problem::LeftOver => f.write_str("left over: the line should end before it"),
+        }
     }
 }
 

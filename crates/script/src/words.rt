@@ -4,7 +4,11 @@ ghost use Prim.Native.Nat.{_≤_};
 ghost use lib.ListN.{length};
 use crate::error::Problem;
 use crate::error::RunError;
+use crate::error::RunErrorFromIoError;
 use crate::error::ScriptError;
+use crate::hex::octet;
+use crate::number::number;
+use crate::number::size;
 use crate::word::Word;
 use std::io;
 use std::io::Read;
@@ -144,6 +148,43 @@ impl<R: Read> Words<R> {
                 self.take_word()?;
                 Ok(Token::Word)
             }
+        }
+    }
+
+    // The next octet of the line, until there is none.
+    pub fn next_octet(&mut self) -> Result<Option<u8>, RunError> {
+        match self.next()? {
+            Token::Word => match octet(self.word.bytes()) {
+                Some(octet) => Ok(Some(octet)),
+                None => Err(self.error(Problem::NoOctet)),
+            },
+            Token::LineEnd | Token::End => Ok(None),
+        }
+    }
+
+    // The next word, which is to be a number.
+    pub fn next_number(&mut self) -> Result<usize, RunError> {
+        self.next()?;
+        match number(self.word.bytes()) {
+            Some(number) => Ok(number),
+            None => Err(self.error(Problem::NoNumber)),
+        }
+    }
+
+    // The next word, which is to be a size: rows and columns.
+    pub fn next_size(&mut self) -> Result<(usize, usize), RunError> {
+        self.next()?;
+        match size(self.word.bytes()) {
+            Some(size) => Ok(size),
+            None => Err(self.error(Problem::NoSize)),
+        }
+    }
+
+    // Nothing more may stand in the line.
+    pub fn end_line(&mut self) -> Result<(), RunError> {
+        match self.next()? {
+            Token::Word => Err(self.error(Problem::LeftOver)),
+            Token::LineEnd | Token::End => Ok(()),
         }
     }
 }

@@ -2,3 +2,4 @@
 pub mod build;
 pub mod choice;
 pub mod lowest;
+pub mod parse;
