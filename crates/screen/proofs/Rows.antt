@@ -74,3 +74,104 @@ pub down-all : {A : Type 0} (e : A) (xs : List A) (r h w : ℕ) → r < h → le
     → clear-row e w r (paste xs (r * w + w + 0) (drop (r * w + 0) xs) ((h - 1 - r) * w - 0)) ≡ insert-row e w r xs
 unfolding clear-row insert-row
 down-all e xs r h w l f = down-filled e xs (r * w) w ((h - 1 - r) * w) (rows-after r h w l ∙ sym f)
+
+-- the length of each, and what stands at each place
+pub length-clear-row : {A : Type 0} (e : A) (w r : ℕ) (xs : List A) → r * w + w ≤ length xs → length (clear-row e w r xs) ≡ length xs
+unfolding clear-row
+length-clear-row e w r xs h = search (needs, places)
+
+pub clear-below : {A : Type 0} (e : A) (w r : ℕ) (xs : List A) (k : ℕ) (d : A) → r * w + w ≤ length xs → k < r * w → getD (clear-row e w r xs) k d ≡ getD xs k d
+unfolding clear-row
+clear-below e w r xs k d h l = grind (arith, places)
+
+pub clear-within : {A : Type 0} (e : A) (w r : ℕ) (xs : List A) (k : ℕ) (d : A) → r * w + w ≤ length xs → r * w ≤ k → k < r * w + w → getD (clear-row e w r xs) k d ≡ e
+unfolding clear-row
+clear-within e w r xs k d h l u = grind (arith, places)
+
+pub clear-above : {A : Type 0} (e : A) (w r : ℕ) (xs : List A) (k : ℕ) (d : A) → r * w + w ≤ length xs → r * w + w ≤ k → getD (clear-row e w r xs) k d ≡ getD xs k d
+unfolding clear-row
+clear-above e w r xs k d h l = grind (arith, places)
+
+pub length-remove-row : {A : Type 0} (e : A) (w r : ℕ) (xs : List A) → r * w + w ≤ length xs → length (remove-row e w r xs) ≡ length xs
+unfolding remove-row
+length-remove-row e w r xs h = search (needs, places)
+
+pub remove-below : {A : Type 0} (e : A) (w r : ℕ) (xs : List A) (k : ℕ) (d : A) → r * w + w ≤ length xs → k < r * w → getD (remove-row e w r xs) k d ≡ getD xs k d
+unfolding remove-row
+remove-below e w r xs k d h l = grind (arith, places)
+
+pub remove-within : {A : Type 0} (e : A) (w r : ℕ) (xs : List A) (k : ℕ) (d : A) → r * w + w ≤ length xs → r * w ≤ k → k + w < length xs → getD (remove-row e w r xs) k d ≡ getD xs (k + w) d
+unfolding remove-row
+remove-within e w r xs k d h l u = grind (arith, places)
+
+pub remove-last : {A : Type 0} (e : A) (w r : ℕ) (xs : List A) (k : ℕ) (d : A) → r * w + w ≤ length xs → length xs ≤ k + w → k < length xs → getD (remove-row e w r xs) k d ≡ e
+unfolding remove-row
+remove-last e w r xs k d h l u = grind (arith, places)
+
+pub length-insert-row : {A : Type 0} (e : A) (w r : ℕ) (xs : List A) → r * w + w ≤ length xs → length (insert-row e w r xs) ≡ length xs
+unfolding insert-row
+length-insert-row e w r xs h = search (needs, places)
+
+pub insert-below : {A : Type 0} (e : A) (w r : ℕ) (xs : List A) (k : ℕ) (d : A) → r * w + w ≤ length xs → k < r * w → getD (insert-row e w r xs) k d ≡ getD xs k d
+unfolding insert-row
+insert-below e w r xs k d h l = grind (arith, places)
+
+pub insert-within : {A : Type 0} (e : A) (w r : ℕ) (xs : List A) (k : ℕ) (d : A) → r * w + w ≤ length xs → r * w ≤ k → k < r * w + w → getD (insert-row e w r xs) k d ≡ e
+unfolding insert-row
+insert-within e w r xs k d h l u = grind (arith, places)
+
+pub insert-above : {A : Type 0} (e : A) (w r : ℕ) (xs : List A) (k : ℕ) (d : A) → r * w + w ≤ length xs → r * w + w ≤ k → k < length xs → getD (insert-row e w r xs) k d ≡ getD xs (k - w) d
+unfolding insert-row
+insert-above e w r xs k d h l u = grind (arith, places)
+
+-- a list with these elements at its places is the one
+pub is-clear-row : {A : Type 0} (e d : A) (w r : ℕ) (xs ys : List A) → r * w + w ≤ length xs → length ys ≡ length xs
+    → ((k : ℕ) → k < r * w → getD ys k d ≡ getD xs k d)
+    → ((k : ℕ) → r * w ≤ k → k < r * w + w → getD ys k d ≡ e)
+    → ((k : ℕ) → r * w + w ≤ k → k < length xs → getD ys k d ≡ getD xs k d)
+    → ys ≡ clear-row e w r xs
+is-clear-row e d w r xs ys h n below within above =
+    ext-getD d ys (clear-row e w r xs) (n ∙ sym (length-clear-row e w r xs h))
+    (λ k l.
+    ⊎-elim
+    (λ (b : k < r * w). below k b ∙ sym (clear-below e w r xs k d h b))
+    (λ (a : r * w ≤ k).
+    ⊎-elim
+    (λ (b : k < r * w + w). within k a b ∙ sym (clear-within e w r xs k d h a b))
+    (λ (b : r * w + w ≤ k). above k b (omega arith) ∙ sym (clear-above e w r xs k d h b))
+    (cases-lt k (r * w + w)))
+    (cases-lt k (r * w)))
+
+pub is-remove-row : {A : Type 0} (e d : A) (w r : ℕ) (xs ys : List A) → r * w + w ≤ length xs → length ys ≡ length xs
+    → ((k : ℕ) → k < r * w → getD ys k d ≡ getD xs k d)
+    → ((k : ℕ) → r * w ≤ k → k + w < length xs → getD ys k d ≡ getD xs (k + w) d)
+    → ((k : ℕ) → length xs ≤ k + w → k < length xs → getD ys k d ≡ e)
+    → ys ≡ remove-row e w r xs
+is-remove-row e d w r xs ys h n below within last =
+    ext-getD d ys (remove-row e w r xs) (n ∙ sym (length-remove-row e w r xs h))
+    (λ k l.
+    ⊎-elim
+    (λ (b : k < r * w). below k b ∙ sym (remove-below e w r xs k d h b))
+    (λ (a : r * w ≤ k).
+    ⊎-elim
+    (λ (b : k + w < length xs). within k a b ∙ sym (remove-within e w r xs k d h a b))
+    (λ (b : length xs ≤ k + w). last k b (omega arith) ∙ sym (remove-last e w r xs k d h b (omega arith)))
+    (cases-lt (k + w) (length xs)))
+    (cases-lt k (r * w)))
+
+pub is-insert-row : {A : Type 0} (e d : A) (w r : ℕ) (xs ys : List A) → r * w + w ≤ length xs → length ys ≡ length xs
+    → ((k : ℕ) → k < r * w → getD ys k d ≡ getD xs k d)
+    → ((k : ℕ) → r * w ≤ k → k < r * w + w → getD ys k d ≡ e)
+    → ((k : ℕ) → r * w + w ≤ k → k < length xs → getD ys k d ≡ getD xs (k - w) d)
+    → ys ≡ insert-row e w r xs
+is-insert-row e d w r xs ys h n below within above =
+    ext-getD d ys (insert-row e w r xs) (n ∙ sym (length-insert-row e w r xs h))
+    (λ k l.
+    ⊎-elim
+    (λ (b : k < r * w). below k b ∙ sym (insert-below e w r xs k d h b))
+    (λ (a : r * w ≤ k).
+    ⊎-elim
+    (λ (b : k < r * w + w). within k a b ∙ sym (insert-within e w r xs k d h a b))
+    (λ (b : r * w + w ≤ k). above k b (omega arith) ∙ sym (insert-above e w r xs k d h b (omega arith)))
+    (cases-lt k (r * w + w)))
+    (cases-lt k (r * w)))

@@ -1,9 +1,7 @@
 use Prim.Native.Nat.{_*_, _<_}
-use mathlib.Core.Path.{_≡_, refl, sym, _∙_, ap}
+use mathlib.Core.Path.{_≡_, refl, _∙_}
 use native.Mathlib.Omega.{arith}
-use Rattle.std.proofs.shelf.Tests.{lt-ltb}
-use Rattle.screen.specs.Answers.{done-if}
-use Rattle.screen.proofs.Grids.{row-fits, clear-none, clear-more, clear-all}
+use Rattle.screen.proofs.Grids.{row-fits, row-done, clear-none, clear-more, clear-all}
 use Rattle.screen.proofs.interface.Screen.clear_row.Needs as need
 
 pub loop-i-holds : need.loop-i-holds
@@ -23,6 +21,6 @@ returns g c =
     let l : c .args .row < G .rows = omega (arith, c .rows .ensures) in
     record {
       rest = c .loop-i .inv .0;
-      answer = sym (ap done-if (lt-ltb _ _ l));
+      answer = row-done G (c .args .row) l;
       grid = clear-all G _ (c .args .row) (c .columns-columns .result) (c .loop-i .i) l (c .columns-columns .ensures) (omega arith) (c .loop-i .inv .1);
     }
