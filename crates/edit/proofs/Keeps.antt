@@ -64,8 +64,13 @@ module _ (g : Grid) (s : Sound g) where
   -- other cells, as many and all of them storable
   with-sound : (cs : List Cell) → length cs ≡ size g → All Storable cs → Sound (with-cells g cs)
   with-sound cs l a = record {
-    row-least = s .row-least; row-most = s .row-most; column-least = s .column-least; column-most = s .column-most;
-    filled = l ∙ s .filled; stored = λ k h. all-getD Storable cs k blank h a }
+    row-least = s .row-least;
+    row-most = s .row-most;
+    column-least = s .column-least;
+    column-most = s .column-most;
+    filled = l ∙ s .filled;
+    stored = λ k h. all-getD Storable cs k blank h a;
+  }
 
   redraw-sound : (p n : ℕ) (f : List Cell → List Cell) → ((xs : List Cell) → length (f xs) ≡ length xs) → ((xs : List Cell) → All Storable xs → All Storable (f xs)) → Sound (redraw g p n f)
   redraw-sound p n f l a =

@@ -3,10 +3,10 @@ ghost use mathlib.Core.Path.{_≡_};
 ghost use Prim.Native.Nat.{_+_, _%_, _<_};
 ghost use Rattle.edit.specs.View.{size, view};
 ghost use Rattle.edit.specs.Moves.{moved, stop-from};
-use codes::HT;
 use crate::cell::cell_at;
 use crate::cell::cell_count;
 use crate::edits::Motion;
+use codes::HT;
 use screen::interface::Screen;
 
 // A place at most one round too far.

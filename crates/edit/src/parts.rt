@@ -5,10 +5,10 @@ ghost use lib.ListN.{take, drop};
 ghost use Rattle.std.specs.shelf.Lists.{leading};
 ghost use Rattle.edit.specs.View.{size, view};
 ghost use Rattle.edit.specs.Parts.{redraw, erased, open-erased, deleted, pushed, is-open, run};
-use codes::SPACE;
 use crate::cell::cell_at;
 use crate::cell::cell_count;
 use crate::edits::Reach;
+use codes::SPACE;
 use screen::interface::Screen;
 
 // How many open cells stand in a row from a place on, before the end.
@@ -72,7 +72,11 @@ pub(crate) fn delete<S: Screen>(screen: &mut S, from: usize, count: usize)
 {
     let end = from + count;
     for k in from..end {
-        let next = if k + 1 < end { cell_at(screen, k + 1) } else { (SPACE, false) };
+        let next = if k + 1 < end {
+            cell_at(screen, k + 1)
+        } else {
+            (SPACE, false)
+        };
         let _ = screen.write(k, next.0, next.1);
     }
 }

@@ -30,7 +30,11 @@ fn first_open<S: Screen>(screen: &S, from: usize) -> usize
     ensures { λ r. ⌜ r ≡ first-open (grid (now (screen .entry))) from ⌝ }
 {
     let found = open_from(screen, from);
-    if found < cell_count(screen) { found } else { open_from(screen, 0) }
+    if found < cell_count(screen) {
+        found
+    } else {
+        open_from(screen, 0)
+    }
 }
 
 // Stores a character in the first open cell at or after the cursor and answers the place of the next one, both going

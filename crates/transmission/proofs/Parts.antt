@@ -55,7 +55,7 @@ trimming-no kind cs from i to left h l f e t =
     let c = getD cs i blank in
     let one : kept-by (is-sent kind) (between i to cs) ≡ kept-by (is-sent kind) (between (i + 1) to cs) = ap (kept-by (is-sent kind)) (part-more cs i to l f) ∙ cond-false (is-sent kind c) _ _ e in
     let two : kept-by (is-sent kind) (between from (i + 1) cs) ≡ kept-by (is-sent kind) (between from i cs) =
-        kept-push kind cs from i h f ∙ ap (λ x. kept-by (is-sent kind) (between from i cs) ++ x) (cond-false (is-sent kind c) (c ∷ []) [] e) ∙ append-nil (kept-by (is-sent kind) (between from i cs)) in
+    kept-push kind cs from i h f ∙ ap (λ x. kept-by (is-sent kind) (between from i cs) ++ x) (cond-false (is-sent kind c) (c ∷ []) [] e) ∙ append-nil (kept-by (is-sent kind) (between from i cs)) in
     record { low = h; room = omega (arith, t .room); behind = ap length one ∙ t .behind; same = ap (λ x. left + ending is-open-space x) (sym two) ∙ t .same }
 
 pub trimming-yes : (kind : Kind) (cs : List Cell) (from i to left : ℕ) → from ≤ i → i < to → i < length cs → is-sent kind (getD cs i blank) ≡ true → is-open-space (getD cs i blank) ≡ true
@@ -64,8 +64,8 @@ trimming-yes kind cs from i to left h l f e s t =
     let c = getD cs i blank in
     let one : length (kept-by (is-sent kind) (between i to cs)) ≡ suc (length (kept-by (is-sent kind) (between (i + 1) to cs))) = ap (λ x. length (kept-by (is-sent kind) x)) (part-more cs i to l f) ∙ ap length (cond-true (is-sent kind c) (c ∷ kept-by (is-sent kind) (between (i + 1) to cs)) (kept-by (is-sent kind) (between (i + 1) to cs)) e) in
     let two : ending is-open-space (kept-by (is-sent kind) (between from (i + 1) cs)) ≡ 1 + ending is-open-space (kept-by (is-sent kind) (between from i cs)) =
-        ap (ending is-open-space) (kept-push kind cs from i h f ∙ ap (λ x. kept-by (is-sent kind) (between from i cs) ++ x) (cond-true (is-sent kind c) (c ∷ []) [] e))
-        ∙ ending-push is-open-space (kept-by (is-sent kind) (between from i cs)) c ∙ cond-true (is-open-space c) (1 + ending is-open-space (kept-by (is-sent kind) (between from i cs))) 0 s in
+    ap (ending is-open-space) (kept-push kind cs from i h f ∙ ap (λ x. kept-by (is-sent kind) (between from i cs) ++ x) (cond-true (is-sent kind c) (c ∷ []) [] e))
+    ∙ ending-push is-open-space (kept-by (is-sent kind) (between from i cs)) c ∙ cond-true (is-open-space c) (1 + ending is-open-space (kept-by (is-sent kind) (between from i cs))) 0 s in
     record { low = h; room = omega (arith, t .room); behind = omega (arith, one, t .behind); same = omega (arith, two, t .same) }
 
 -- a cell that is sent and no open space ends it

@@ -5,13 +5,13 @@ ghost use Prim.Native.Nat.{_+_, _<_, _≤_};
 ghost use Rattle.screen.specs.Cells.{cell};
 ghost use Rattle.transmission.specs.Text.{is-sent, is-open-space, turn, spelled, is-escaped};
 ghost use Rattle.transmission.specs.Held.{text-of};
+use crate::held::HeldText;
+use crate::kind::Kind;
 use codes::ESC;
 use codes::HT;
 use codes::SI;
 use codes::SO;
 use codes::SPACE;
-use crate::held::HeldText;
-use crate::kind::Kind;
 
 // Whether a code is sent with ESC before it: a tab stop where all cells are sent.
 fn is_escaped(kind: Kind, code: u8) -> bool
@@ -45,7 +45,10 @@ impl HeldText {
     pub fn new() -> HeldText
         ensures { λ r. ⌜ text-of r ≡ [] ⌝ }
     {
-        HeldText { characters: [0; 5766], len: 0 }
+        HeldText {
+            characters: [0; 5766],
+            len: 0,
+        }
     }
 
     // The text.

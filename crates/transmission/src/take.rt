@@ -6,15 +6,15 @@ ghost use Rattle.std.specs.shelf.Lists.{kept-by, ending, between};
 ghost use Rattle.edit.specs.View.{size, view, at};
 ghost use Rattle.transmission.specs.Text.{is-sent, is-open-space, start-at, sends, row-sends, trimmed, opening, stretch, taken};
 ghost use Rattle.transmission.specs.Held.{text-of, sent-of};
+use crate::held::HeldText;
+use crate::kind::Kind;
+use crate::spell::is_open_space;
 use codes::CR;
 use codes::ESC;
 use codes::RS;
 use codes::SI;
 use codes::SPACE;
 use codes::VT;
-use crate::held::HeldText;
-use crate::kind::Kind;
-use crate::spell::is_open_space;
 use edit::cell::cell_at;
 use edit::cell::on_screen;
 use screen::interface::Screen;
@@ -47,7 +47,14 @@ fn put_address<S: Screen>(held: &mut HeldText, screen: &S, first: usize)
 }
 
 // Sends cells; `was` and the answer are the protection of the last cell sent before and then.
-fn put_part<S: Screen>(held: &mut HeldText, screen: &S, from: usize, to: usize, was: bool, kind: Kind) -> bool
+fn put_part<S: Screen>(
+    held: &mut HeldText,
+    screen: &S,
+    from: usize,
+    to: usize,
+    was: bool,
+    kind: Kind,
+) -> bool
     requires { ⌜ from ≤ to ⌝ ∗ ⌜ to ≤ size (grid (now screen)) ⌝ ∗ ⌜ now held .len + 3 * (to - from) ≤ 5766 ⌝ }
     ensures sent { λ r. ⌜ sent-of (now (held .exit)) r ≡ sends kind (between from to (grid (now (screen .entry)) .cells)) (sent-of (now (held .entry)) was) ⌝ }
     ensures len { λ _. ⌜ now (held .exit) .len ≤ now (held .entry) .len + 3 * (to - from) ⌝ }
@@ -87,7 +94,14 @@ fn trimmed_end<S: Screen>(screen: &S, from: usize, to: usize, kind: Kind) -> (us
 }
 
 // Sends a row before the cursor's.
-fn put_row<S: Screen>(held: &mut HeldText, screen: &S, from: usize, to: usize, was: bool, kind: Kind) -> bool
+fn put_row<S: Screen>(
+    held: &mut HeldText,
+    screen: &S,
+    from: usize,
+    to: usize,
+    was: bool,
+    kind: Kind,
+) -> bool
     requires { ⌜ from ≤ to ⌝ ∗ ⌜ to ≤ size (grid (now screen)) ⌝ ∗ ⌜ now held .len + 3 * (to - from) ≤ 5766 ⌝ }
     ensures sent { λ r. ⌜ sent-of (now (held .exit)) r ≡ row-sends kind (between from to (grid (now (screen .entry)) .cells)) (sent-of (now (held .entry)) was) ⌝ }
     ensures len { λ _. ⌜ now (held .exit) .len ≤ now (held .entry) .len + 3 * (to - from) ⌝ }
@@ -101,7 +115,13 @@ fn put_row<S: Screen>(held: &mut HeldText, screen: &S, from: usize, to: usize, w
 }
 
 // Sends the cells from the first through the cursor's, row by row.
-fn put_stretch<S: Screen>(held: &mut HeldText, screen: &S, first: usize, cursor: usize, kind: Kind) -> bool
+fn put_stretch<S: Screen>(
+    held: &mut HeldText,
+    screen: &S,
+    first: usize,
+    cursor: usize,
+    kind: Kind,
+) -> bool
     requires { ⌜ first ≤ cursor ⌝ ∗ ⌜ cursor < size (grid (now screen)) ⌝ ∗ ⌜ now held .len ≡ 5 ⌝ }
     ensures sent { λ r. ⌜ sent-of (now (held .exit)) r ≡ stretch kind (view (grid (now (screen .entry))) cursor) first (sent-of (now (held .entry)) false) ⌝ }
     ensures len { λ _. ⌜ now (held .exit) .len < 5766 ⌝ }

@@ -22,15 +22,15 @@ loop-k-again g c =
     let i = c .loop-k .inv in
     let e = c .write .ensures in
     let drawn : written here k (c .if-k-end .next .0) (c .if-k-end .next .1) ≡ partly v (c .args .from) (deleted (part v (c .args .from) (c .args .count))) (k + 1) =
-        elim (c .if-k-end .came) [
-        | then-k-end w ↦
-            ap (λ x. written here k (x .0) (x .1)) (w .next-is)
-            ∙ delete-more v here (c .args .from) (c .args .count) k (omega arith) (omega arith) (c .pre) (w .cell-at-next .result .0) (w .cell-at-next .result .1)
-            (w .if-k-end .taken) (w .cell-at-next .ensures .stored) (w .cell-at-next .ensures .value) (i .1)
-        | else-k-end w ↦
-            ap (λ x. written here k (x .0) (x .1)) (w .next-is)
-            ∙ delete-last v here (c .args .from) (c .args .count) k (omega arith) (omega arith) (c .pre) (omega (arith, w .if-k-end .left)) (i .1)
-        ] in
+    elim (c .if-k-end .came) [
+      | then-k-end w ↦
+          ap (λ x. written here k (x .0) (x .1)) (w .next-is)
+          ∙ delete-more v here (c .args .from) (c .args .count) k (omega arith) (omega arith) (c .pre) (w .cell-at-next .result .0) (w .cell-at-next .result .1)
+          (w .if-k-end .taken) (w .cell-at-next .ensures .stored) (w .cell-at-next .ensures .value) (i .1)
+      | else-k-end w ↦
+          ap (λ x. written here k (x .0) (x .1)) (w .next-is)
+          ∙ delete-last v here (c .args .from) (c .args .count) k (omega arith) (omega arith) (c .pre) (omega (arith, w .if-k-end .left)) (i .1)
+    ] in
     (e .rest ∙ i .0, e .grid ∙ drawn)
 
 pub returns : need.returns
@@ -40,5 +40,5 @@ returns g c =
     record {
       rest = c .loop-k .inv .0;
       grid = partly-all v (g .S·Screen .grid (c .loop-k .screen)) (c .args .from) (c .args .count) (c .loop-k .k) deleted (omega arith)
-      (length-deleted new ∙ length-part v (c .args .from) (c .args .count) (c .pre)) (c .loop-k .inv .1);
+          (length-deleted new ∙ length-part v (c .args .from) (c .args .count) (c .pre)) (c .loop-k .inv .1);
     }

@@ -13,9 +13,10 @@ loop-k-holds g c = let v = g .S·Screen .grid (c .args .screen .now) in (refl, p
 
 pub loop-k-again : need.loop-k-again
 loop-k-again g c =
-    let e = c .write .ensures in
-    ( e .rest ∙ c .loop-k .inv .0
-    , e .grid ∙ erase-more (g .S·Screen .grid (c .args .screen .now)) (g .S·Screen .grid (c .loop-k .screen)) (c .args .from) (c .args .count) (c .loop-k .k) (omega arith) (omega arith) (c .pre) (c .loop-k .inv .1) )
+    let e = c .write .ensures in (
+      e .rest ∙ c .loop-k .inv .0,
+      e .grid ∙ erase-more (g .S·Screen .grid (c .args .screen .now)) (g .S·Screen .grid (c .loop-k .screen)) (c .args .from) (c .args .count) (c .loop-k .k) (omega arith) (omega arith) (c .pre) (c .loop-k .inv .1),
+    )
 
 pub returns : need.returns
 returns g c =
@@ -24,5 +25,5 @@ returns g c =
     record {
       rest = c .loop-k .inv .0;
       grid = partly-all v (g .S·Screen .grid (c .loop-k .screen)) (c .args .from) (c .args .count) (c .loop-k .k) erased (omega arith)
-      (length-erased new ∙ length-part v (c .args .from) (c .args .count) (c .pre)) (c .loop-k .inv .1);
+          (length-erased new ∙ length-part v (c .args .from) (c .args .count) (c .pre)) (c .loop-k .inv .1);
     }

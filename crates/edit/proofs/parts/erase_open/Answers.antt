@@ -23,14 +23,16 @@ loop-k-again g c =
     let same = sym (ap is-open (c .cell-at .ensures .value)) in
     let i = c .loop-k .inv in
     elim (c .if-not-cell-at .came) [
-    | then-not-cell-at w ↦
-        ( ap (g .S·Screen .rest) (w .screen-is) ∙ w .write .ensures .rest ∙ i .0
-        , ap (g .S·Screen .grid) (w .screen-is) ∙ w .write .ensures .grid
-        ∙ erase-open-more v here (c .args .from) (c .args .count) (c .loop-k .k) (omega arith) (omega arith) (c .pre) (not-true (cell .protected) (same ∙ w .if-not-cell-at .taken)) (i .1) )
-    | else-not-cell-at w ↦
-        ( ap (g .S·Screen .rest) (w .screen-is) ∙ i .0
-        , ap (g .S·Screen .grid) (w .screen-is)
-        ∙ erase-open-keeps v here (c .args .from) (c .args .count) (c .loop-k .k) (omega arith) (omega arith) (c .pre) (not-false (cell .protected) (same ∙ w .if-not-cell-at .left)) (i .1) )
+      | then-not-cell-at w ↦ (
+        ap (g .S·Screen .rest) (w .screen-is) ∙ w .write .ensures .rest ∙ i .0,
+        ap (g .S·Screen .grid) (w .screen-is) ∙ w .write .ensures .grid
+            ∙ erase-open-more v here (c .args .from) (c .args .count) (c .loop-k .k) (omega arith) (omega arith) (c .pre) (not-true (cell .protected) (same ∙ w .if-not-cell-at .taken)) (i .1),
+      )
+      | else-not-cell-at w ↦ (
+        ap (g .S·Screen .rest) (w .screen-is) ∙ i .0,
+        ap (g .S·Screen .grid) (w .screen-is)
+            ∙ erase-open-keeps v here (c .args .from) (c .args .count) (c .loop-k .k) (omega arith) (omega arith) (c .pre) (not-false (cell .protected) (same ∙ w .if-not-cell-at .left)) (i .1),
+      )
     ]
 
 pub returns : need.returns
@@ -40,5 +42,5 @@ returns g c =
     record {
       rest = c .loop-k .inv .0;
       grid = partly-all v (g .S·Screen .grid (c .loop-k .screen)) (c .args .from) (c .args .count) (c .loop-k .k) open-erased (omega arith)
-      (length-open-erased new ∙ length-part v (c .args .from) (c .args .count) (c .pre)) (c .loop-k .inv .1);
+          (length-open-erased new ∙ length-part v (c .args .from) (c .args .count) (c .pre)) (c .loop-k .inv .1);
     }

@@ -25,11 +25,12 @@ loop-k-again g c =
     let v = g .S·Screen .grid (c .args .screen .now) in
     let here = g .S·Screen .grid (c .loop-k .screen) in
     let e = c .write .ensures in
-    let i = c .loop-k .inv in
-    ( e .rest ∙ i .0
-    , e .grid ∙ insert-more v here (c .args .from) (c .args .count) (c .loop-k .k) (omega arith) (omega arith) (c .pre) (c .loop-k .before .0) (c .loop-k .before .1) (i .3) (i .2) (i .1)
-    , c .cell-at-here .ensures .value ∙ insert-next v here (c .args .from) (c .args .count) (c .loop-k .k) (omega arith) (omega arith) (c .pre) (i .1)
-    , c .cell-at-here .ensures .stored )
+    let i = c .loop-k .inv in (
+      e .rest ∙ i .0,
+      e .grid ∙ insert-more v here (c .args .from) (c .args .count) (c .loop-k .k) (omega arith) (omega arith) (c .pre) (c .loop-k .before .0) (c .loop-k .before .1) (i .3) (i .2) (i .1),
+      c .cell-at-here .ensures .value ∙ insert-next v here (c .args .from) (c .args .count) (c .loop-k .k) (omega arith) (omega arith) (c .pre) (i .1),
+      c .cell-at-here .ensures .stored,
+    )
 
 pub returns : need.returns
 returns g c =
@@ -38,5 +39,5 @@ returns g c =
     record {
       rest = c .loop-k .inv .0;
       grid = partly-all v (g .S·Screen .grid (c .loop-k .screen)) (c .args .from) (c .args .count) (c .loop-k .k) pushed (omega arith)
-      (length-pushed new ∙ length-part v (c .args .from) (c .args .count) (c .pre)) (c .loop-k .inv .1);
+          (length-pushed new ∙ length-part v (c .args .from) (c .args .count) (c .pre)) (c .loop-k .inv .1);
     }

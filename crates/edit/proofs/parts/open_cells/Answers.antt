@@ -21,9 +21,9 @@ returns g c =
     let cs = g .S·Screen .grid (c .args .screen .now) .cells in
     let at = c .loop-at .at in
     let done : leading is-open (take (c .args .end - at) (drop at cs)) ≡ 0 =
-        elim (c .loop-at-test .came) [
-        | then-loop-at-test·else-not-cell-at w ↦
-            leading-part-no is-open cs at (c .args .end) (w .loop-at-test .taken) (omega (arith, w .loop-at-test .taken)) (sym (ap is-open (w .cell-at .ensures .value)) ∙ w .if-not-cell-at .left)
-        | else-loop-at-test w ↦ (let none : c .args .end - at ≡ 0 = omega (arith, w .loop-at-test .left) in ap (λ n. leading is-open (take n (drop at cs))) none)
-        ] in
+    elim (c .loop-at-test .came) [
+      | then-loop-at-test·else-not-cell-at w ↦
+          leading-part-no is-open cs at (c .args .end) (w .loop-at-test .taken) (omega (arith, w .loop-at-test .taken)) (sym (ap is-open (w .cell-at .ensures .value)) ∙ w .if-not-cell-at .left)
+      | else-loop-at-test w ↦ (let none : c .args .end - at ≡ 0 = omega (arith, w .loop-at-test .left) in ap (λ n. leading is-open (take n (drop at cs))) none)
+    ] in
     omega (arith, c .loop-at .inv .2)

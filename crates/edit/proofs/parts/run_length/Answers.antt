@@ -25,12 +25,12 @@ returns-in-Row g c =
     let w = c .columns-columns .result in
     let left : p + (w - p % w) - p ≡ w - p % w = omega arith in
     let q = run-is (c .args .reach) v (p + (w - p % w) - p) (c .open-cells .result) (omega arith)
-            (left ∙ ap (λ x. x - p % x) (c .columns-columns .ensures) ∙ ap (λ r. room r v) (sym (c .in-Row .is))) (c .open-cells .ensures) in
+    (left ∙ ap (λ x. x - p % x) (c .columns-columns .ensures) ∙ ap (λ r. room r v) (sym (c .in-Row .is))) (c .open-cells .ensures) in
     record { value = q .0; within = q .1 }
 
 pub returns-in-Display : need.returns-in-Display
 returns-in-Display g c =
     let v = view (g .S·Screen .grid (c .args .screen .now)) (c .args .cursor) in
     let q = run-is (c .args .reach) v (c .cell-count .result - c .args .cursor) (c .open-cells-in-Display .result) (omega arith)
-            (ap (λ x. x - c .args .cursor) (c .cell-count .ensures .value) ∙ ap (λ r. room r v) (sym (c .in-Display .is))) (c .open-cells-in-Display .ensures) in
+    (ap (λ x. x - c .args .cursor) (c .cell-count .ensures .value) ∙ ap (λ r. room r v) (sym (c .in-Display .is))) (c .open-cells-in-Display .ensures) in
     record { value = q .0; within = q .1 }

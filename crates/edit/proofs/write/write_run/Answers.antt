@@ -21,14 +21,15 @@ loop-code-again g c =
     let e = c .write .ensures in
     let start = at (g .S·Screen .grid (c .args .screen .now)) (c .args .cursor) in
     let count = c .cell-count-count .ensures .value in
-    let next = c .round-place .ensures ∙ ap (λ n. (c .loop-code .place + 1) % n) (count ∙ sym (inv .1)) in
-    ( e .rest ∙ inv .0
-    , ap size (e .grid) ∙ size-written here (c .loop-code .place) code m ∙ inv .1
-    , omega (arith, c .round-place .ensures, mod-below (c .loop-code .place + 1) (c .cell-count-count .result) (c .cell-count-count .ensures .some))
-    , ap (λ v. view v (c .round-place .result)) (e .grid)
-    ∙ ap (λ p. view (typed m (view here (c .loop-code .place)) code .grid) p) next
-    ∙ ap (λ v. typed m v code) (inv .3)
-    ∙ sym (folded-more (typed m) start run i 0 (c .loop-code-test .taken)) )
+    let next = c .round-place .ensures ∙ ap (λ n. (c .loop-code .place + 1) % n) (count ∙ sym (inv .1)) in (
+      e .rest ∙ inv .0,
+      ap size (e .grid) ∙ size-written here (c .loop-code .place) code m ∙ inv .1,
+      omega (arith, c .round-place .ensures, mod-below (c .loop-code .place + 1) (c .cell-count-count .result) (c .cell-count-count .ensures .some)),
+      ap (λ v. view v (c .round-place .result)) (e .grid)
+          ∙ ap (λ p. view (typed m (view here (c .loop-code .place)) code .grid) p) next
+          ∙ ap (λ v. typed m v code) (inv .3)
+          ∙ sym (folded-more (typed m) start run i 0 (c .loop-code-test .taken)),
+    )
 
 pub returns : need.returns
 returns g c =

@@ -23,14 +23,16 @@ loop-k-again g c =
     let l : k < length cs = omega arith in
     let v = c .cell-at-found .ensures .value in
     elim (c .if-sends .came) [
-    | then-sends w ↦
-        (let e : sent-of (c .if-sends .held) (c .if-sends .last) ≡ says kind o cell =
-            ap (λ h. sent-of h (c .if-sends .last)) (w .held-is) ∙ ap (sent-of (w .spell .last .self)) (w .last-is)
-            ∙ ap (λ t. record { characters = t; last = c .cell-at-found .result .1 }) (w .spell .ensures .text) ∙ ap (says kind o) v in
-        ( ap (sends kind r) e ∙ sym (sends-yes kind cs k to o (c .loop-k-test .taken) l (sym (ap (is-sent kind) v) ∙ sym (w .if-sends .ensures tt))) ∙ c .loop-k .inv .0
-        , omega (arith, ap (λ h. h .len) (w .held-is), w .spell .ensures .len, c .loop-k .inv .1) ))
-    | else-sends w ↦
-        ( ap (sends kind r) (ap (λ h. sent-of h (c .if-sends .last)) (w .held-is) ∙ ap (sent-of (c .loop-k .held)) (w .last-is))
-            ∙ sym (sends-no kind cs k to o (c .loop-k-test .taken) l (sym (ap (is-sent kind) v) ∙ sym (w .if-sends .ensures tt))) ∙ c .loop-k .inv .0
-        , omega (arith, ap (λ h. h .len) (w .held-is), c .loop-k .inv .1) )
+      | then-sends w ↦
+          (let e : sent-of (c .if-sends .held) (c .if-sends .last) ≡ says kind o cell =
+          ap (λ h. sent-of h (c .if-sends .last)) (w .held-is) ∙ ap (sent-of (w .spell .last .self)) (w .last-is)
+          ∙ ap (λ t. record { characters = t; last = c .cell-at-found .result .1 }) (w .spell .ensures .text) ∙ ap (says kind o) v in (
+            ap (sends kind r) e ∙ sym (sends-yes kind cs k to o (c .loop-k-test .taken) l (sym (ap (is-sent kind) v) ∙ sym (w .if-sends .ensures tt))) ∙ c .loop-k .inv .0,
+            omega (arith, ap (λ h. h .len) (w .held-is), w .spell .ensures .len, c .loop-k .inv .1),
+          ))
+      | else-sends w ↦ (
+        ap (sends kind r) (ap (λ h. sent-of h (c .if-sends .last)) (w .held-is) ∙ ap (sent-of (c .loop-k .held)) (w .last-is))
+            ∙ sym (sends-no kind cs k to o (c .loop-k-test .taken) l (sym (ap (is-sent kind) v) ∙ sym (w .if-sends .ensures tt))) ∙ c .loop-k .inv .0,
+        omega (arith, ap (λ h. h .len) (w .held-is), c .loop-k .inv .1),
+      )
     ]

@@ -32,13 +32,14 @@ loop-from-again g c =
     let one : 0 < w = omega (arith, g .S·Screen .sound s .column-least) in
     let after = row-after w from one in
     let i = c .loop-from .inv in
-    let e = c .put-row-last .ensures in
-    ( omega (arith, i .0)
-    , c .loop-from-test .taken
-    , omega (arith, i .0, i .2, e .len)
-    , ap (stretch (c .args .kind) v to) (e .sent)
-    ∙ sym (stretch-row (c .args .kind) v w from (sent-of (c .loop-from .held) (c .loop-from .last)) (c .columns-columns .ensures) one (c .loop-from-test .taken))
-    ∙ i .3 )
+    let e = c .put-row-last .ensures in (
+      omega (arith, i .0),
+      c .loop-from-test .taken,
+      omega (arith, i .0, i .2, e .len),
+      ap (stretch (c .args .kind) v to) (e .sent)
+          ∙ sym (stretch-row (c .args .kind) v w from (sent-of (c .loop-from .held) (c .loop-from .last)) (c .columns-columns .ensures) one (c .loop-from-test .taken))
+          ∙ i .3,
+    )
 
 pub add-cursor : need.add-cursor
 add-cursor g c = let s = c .args .screen .now in omega (arith, size-most (g .S·Screen .grid s) (g .S·Screen .sound s), c .pre)
@@ -60,7 +61,7 @@ returns g c =
     let e = c .put-part .ensures in
     record {
       sent = e .sent
-      ∙ sym (stretch-end (c .args .kind) v w (c .loop-from .from) (sent-of (c .loop-from .held) (c .loop-from .last)) (c .columns-columns .ensures) (omega (arith, g .S·Screen .sound s .column-least)) (c .loop-from-test .left))
-      ∙ i .3;
+          ∙ sym (stretch-end (c .args .kind) v w (c .loop-from .from) (sent-of (c .loop-from .held) (c .loop-from .last)) (c .columns-columns .ensures) (omega (arith, g .S·Screen .sound s .column-least)) (c .loop-from-test .left))
+          ∙ i .3;
       len = omega (arith, i .0, i .1, i .2, e .len, c .pre);
     }

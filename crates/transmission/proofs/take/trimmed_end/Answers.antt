@@ -21,8 +21,8 @@ returns-then-not-is-open-space g c =
     let t = c .loop-stop .inv in
     let back : i + 1 ≡ stop = omega arith in
     let z : ending is-open-space (kept-by (is-sent kind) (between (c .args .from) stop cs)) ≡ 0 =
-        ap (λ k. ending is-open-space (kept-by (is-sent kind) (between (c .args .from) k cs))) (sym back)
-        ∙ ending-stop kind cs (c .args .from) i (omega arith) (omega (arith, t .room)) (sym (ap (is-sent kind) v) ∙ sym (c .if-sends .ensures tt)) (sym (ap is-open-space v) ∙ sym (c .if-not-is-open-space .ensures tt)) in
+    ap (λ k. ending is-open-space (kept-by (is-sent kind) (between (c .args .from) k cs))) (sym back)
+    ∙ ending-stop kind cs (c .args .from) i (omega arith) (omega (arith, t .room)) (sym (ap (is-sent kind) v) ∙ sym (c .if-sends .ensures tt)) (sym (ap is-open-space v) ∙ sym (c .if-not-is-open-space .ensures tt)) in
     let q = trimmed-whole kind cs (c .args .from) stop (c .args .to) (c .loop-stop .left) (omega (arith, t .room)) t z in
     record { left = q .0; stop = q .1; low = t .low; room = t .room }
 
@@ -40,8 +40,8 @@ loop-stop-again g c =
     let t : Trimming kind cs from (i + 1) to left = let P : ℕ → Type 0 = λ k. Trimming kind cs from k to left in subst P back (c .loop-stop .inv) in
     let Q : ℕ → Type 0 = λ n. Trimming kind cs from i to n in
     elim (c .if-sends .came) [
-    | then-sends·else-not-is-open-space w ↦
-        subst Q (sym (w .left-is)) (trimming-yes kind cs from i to left (omega arith) (omega (arith, t .room)) (omega (arith, t .room)) (sym (ap (is-sent kind) v) ∙ sym (w .if-sends .ensures tt)) (sym (ap is-open-space v) ∙ sym (w .if-not-is-open-space .ensures tt)) t)
-    | else-sends w ↦
-        subst Q (sym (w .left-is)) (trimming-no kind cs from i to left (omega arith) (omega (arith, t .room)) (omega (arith, t .room)) (sym (ap (is-sent kind) v) ∙ sym (w .if-sends .ensures tt)) t)
+      | then-sends·else-not-is-open-space w ↦
+          subst Q (sym (w .left-is)) (trimming-yes kind cs from i to left (omega arith) (omega (arith, t .room)) (omega (arith, t .room)) (sym (ap (is-sent kind) v) ∙ sym (w .if-sends .ensures tt)) (sym (ap is-open-space v) ∙ sym (w .if-not-is-open-space .ensures tt)) t)
+      | else-sends w ↦
+          subst Q (sym (w .left-is)) (trimming-no kind cs from i to left (omega arith) (omega (arith, t .room)) (omega (arith, t .room)) (sym (ap (is-sent kind) v) ∙ sym (w .if-sends .ensures tt)) t)
     ]

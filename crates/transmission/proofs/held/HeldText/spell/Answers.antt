@@ -15,12 +15,14 @@ returns c =
     let s = turn (c .args .was) (c .args .sent .1) in
     let x = text-of (c .push-2 .last .self) in
     elim (c .if-is-escaped .came) [
-    | then-is-escaped w ↦ record {
+      | then-is-escaped w ↦ record {
         text = spell-escaped t s x (c .args .kind) code (sym (w .if-is-escaped .ensures tt))
             (c .push-2 .ensures .text ∙ ap (λ y. text-of y ++ (code ∷ [])) (w .self-is) ∙ ap (λ y. y ++ (code ∷ [])) (w .push .ensures .text ∙ ap (λ y. y ++ (ESC ∷ [])) (c .turn .ensures .text)));
-        len = omega (arith, c .push-2 .ensures .len, ap (λ y. y .len) (w .self-is), w .push .ensures .len, c .turn .ensures .len) }
-    | else-is-escaped w ↦ record {
+        len = omega (arith, c .push-2 .ensures .len, ap (λ y. y .len) (w .self-is), w .push .ensures .len, c .turn .ensures .len);
+      }
+      | else-is-escaped w ↦ record {
         text = spell-plain t s x (c .args .kind) code (sym (w .if-is-escaped .ensures tt))
             (c .push-2 .ensures .text ∙ ap (λ y. text-of y ++ (code ∷ [])) (w .self-is) ∙ ap (λ y. y ++ (code ∷ [])) (c .turn .ensures .text));
-        len = omega (arith, c .push-2 .ensures .len, ap (λ y. y .len) (w .self-is), c .turn .ensures .len) }
+        len = omega (arith, c .push-2 .ensures .len, ap (λ y. y .len) (w .self-is), c .turn .ensures .len);
+      }
     ]
