@@ -1,0 +1,13 @@
+use Prim.Native.Nat.{_+_, _-_}
+use mathlib.Core.Path.{_≡_}
+use lib.ListN.{drop}
+use Rattle.std.specs.shelf.Lists.{leading}
+use Rattle.edit.specs.View.{view}
+use Rattle.edit.specs.Moves.{no-stop, stop-from}
+use Rattle.edit.proofs.moves.next_stop.Given as given
+
+abbrev pub Inv-loop-at : given.InvT-loop-at
+Inv-loop-at g l = stop-from (view (g .S·Screen .grid (l .screen)) (l .at)) ≡ stop-from (view (g .S·Screen .grid (l .screen)) (l .cursor))
+
+abbrev pub μ-loop-at : given.MeasureT-loop-at
+μ-loop-at g l = l .end - l .at
