@@ -1,10 +1,9 @@
 // Each row by its number, with its characters and a map of its protection.
-use crate::cells::cell_at;
+use crate::cells::Cells;
 use codes::FS;
 use codes::GS;
 use codes::HT;
 use codes::RS;
-use screen::interface::Screen;
 use std::io;
 use std::io::Write;
 
@@ -20,30 +19,30 @@ fn character<W: Write>(out: &mut W, code: u8) -> io::Result<()> {
     }
 }
 
-fn row<S: Screen, W: Write>(
+fn row<C: Cells, W: Write>(
     out: &mut W,
-    screen: &S,
+    cells: &C,
     number: usize,
     first: usize,
     columns: usize,
 ) -> io::Result<()> {
     write!(out, "row {number} |")?;
     for column in 0..columns {
-        character(out, cell_at(screen, first.saturating_add(column)).0)?;
+        character(out, cells.cell(first.saturating_add(column)).0)?;
     }
     out.write_all(b"|\n")
 }
 
-fn map<S: Screen, W: Write>(
+fn map<C: Cells, W: Write>(
     out: &mut W,
-    screen: &S,
+    cells: &C,
     number: usize,
     first: usize,
     columns: usize,
 ) -> io::Result<()> {
     write!(out, "map {number} |")?;
     for column in 0..columns {
-        let mark = if cell_at(screen, first.saturating_add(column)).1 {
+        let mark = if cells.cell(first.saturating_add(column)).1 {
             b'#'
         } else {
             b'.'
@@ -54,12 +53,12 @@ fn map<S: Screen, W: Write>(
 }
 
 // All rows, each with its map after it.
-pub fn rows<S: Screen, W: Write>(out: &mut W, screen: &S) -> io::Result<()> {
-    let columns = screen.columns();
-    for number in 0..screen.rows() {
+pub fn rows<C: Cells, W: Write>(out: &mut W, cells: &C) -> io::Result<()> {
+    let columns = cells.width();
+    for number in 0..cells.height() {
         let first = number.saturating_mul(columns);
-        row(out, screen, number, first, columns)?;
-        map(out, screen, number, first, columns)?;
+        row(out, cells, number, first, columns)?;
+        map(out, cells, number, first, columns)?;
     }
     Ok(())
 }

@@ -180,6 +180,17 @@ impl<R: Read> Words<R> {
         }
     }
 
+    // Skips the rest of the line.
+    pub fn skip_line(&mut self) -> Result<(), RunError> {
+        for _ in 0..u64::MAX {
+            match self.next()? {
+                Token::Word => {}
+                Token::LineEnd | Token::End => break,
+            }
+        }
+        Ok(())
+    }
+
     // Nothing more may stand in the line.
     pub fn end_line(&mut self) -> Result<(), RunError> {
         match self.next()? {
