@@ -1,10 +1,7 @@
-use crate::counted::Counted;
-use crate::counted::CountedScreen;
+use crate::bench::copying_calls;
+use crate::bench::turning_calls;
 use crate::script::same_cells;
 use crate::script::script;
-use crate::stacks::in_turned_window;
-use crate::stacks::in_window;
-use crate::stacks::turned;
 use screen::interface::Screen;
 use screen::refusal::RefusalDebug;
 use std::test::*;
@@ -76,4 +73,14 @@ fn script_leaves_these_cells() -> Result<(), Fail> {
     check_eq(store.read(85)?, (b'A', true))?;
     check_eq(store.read(0)?, (b' ', false))?;
     check_eq(store.read(959)?, (codes::FS, true))
+}
+
+// On 24 rows: the turning layer makes two calls at every width, and 46 cells a column are moved without it.
+#[test]
+fn turning_does_not_grow_with_the_columns() -> Result<(), Fail> {
+    let mut store = MapStore::new(Size::new(24, 80)?);
+    check_eq(turning_calls(&mut store, 1)?, 2)?;
+    check_eq(turning_calls(&mut store, 80)?, 2)?;
+    check_eq(copying_calls(&mut store, 1)?, 48)?;
+    check_eq(copying_calls(&mut store, 80)?, 3682)
 }
