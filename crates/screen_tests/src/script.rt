@@ -1,5 +1,7 @@
 // The script, and cells compared.
 ghost use mathlib.Core.Path.{_≡_};
+ghost use Rattle.screen.specs.Grid.{writable};
+ghost use Rattle.screen.specs.Answers.{on-screen};
 use codes::FS;
 use codes::HT;
 use codes::RS;
@@ -63,6 +65,19 @@ pub fn script<S: Screen>(screen: &mut S) -> u8
     move_rows(screen, rows - 1);
     let _ = screen.write(end - 1, FS, true);
     refused_calls(screen, rows, end)
+}
+
+// What is written reads back, on every screen.
+pub fn write_and_read<S: Screen>(
+    screen: &mut S,
+    place: usize,
+    code: u8,
+    mark: bool,
+) -> Result<(u8, bool), Refusal>
+    ensures { λ r. ⌜ r ≡ on-screen (writable (grid (now (screen .entry))) place code) (code, mark) ⌝ }
+{
+    screen.write(place, code, mark)?;
+    screen.read(place)
 }
 
 // Whether two screens have the same size and the same cells.
