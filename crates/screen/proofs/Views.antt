@@ -6,7 +6,7 @@ use mathlib.Core.Bool.{Bool, true, false, cond, _&&_}
 use mathlib.Core.Logic.{_⊎_, ⊎-elim, _≢_}
 use native.Mathlib.Omega.{arith}
 use lib.ListN.{length, getD, set}
-use Rattle.std.proofs.shelf.Tests.{lt-ltb, le-ltb, and-left, and-right, cond-false, cases-eq}
+use Rattle.std.proofs.shelf.Tests.{ltb-true, ltb-false, lt-ltb, le-ltb, and-left, and-right, cond-false, cases-eq}
 use Rattle.std.proofs.shelf.Lists.{ext-getD, length-set, getD-set-same, getD-set-other}
 use Rattle.std.specs.declared.result.Result.{Result}
 use Rattle.std.specs.declared.result.Result.the-variants.{Ok, Err}
@@ -15,6 +15,7 @@ use Rattle.screen.specs.declared.refusal.Refusal.the-variants.{OffScreen}
 use Rattle.screen.specs.Cells.{Cell, cell, blank, storable}
 use Rattle.screen.specs.Grid.{Grid, with-cells, has-place, writable, written, copied}
 use Rattle.screen.specs.Answers.{on-screen, done-if, parts, read-at}
+use Rattle.screen.proofs.Answers.{on-ok, on-err}
 use Rattle.screen.specs.View.{table, view, Into, length-table, getD-table}
 
 -- a place beyond n cells: a read and a write are refused, and nothing changes
@@ -44,13 +45,13 @@ view-place : (f : ℕ → ℕ) (h w : ℕ) (g : Grid) (p : ℕ) → Into f (h * 
 view-place f h w g p i l =
     lt-ltb (f p) (length (g .cells)) (i .below p l) ∙ sym (lt-ltb p (length (view f h w g .cells)) (omega (arith, length-table (h * w) (λ k. getD (g .cells) (f k) blank))))
 
-pub view-read : (f : ℕ → ℕ) (h w : ℕ) (g : Grid) (p : ℕ) → Into f (h * w) (length (g .cells)) → p < h * w → read-at g (f p) ≡ read-at (view f h w g) p
+view-read : (f : ℕ → ℕ) (h w : ℕ) (g : Grid) (p : ℕ) → Into f (h * w) (length (g .cells)) → p < h * w → read-at g (f p) ≡ read-at (view f h w g) p
 view-read f h w g p i l =
     let R : Bool → Cell → Result (ℕ × Bool) Refusal = λ b x. on-screen b (parts x) in
     ap (λ b. R b (getD (g .cells) (f p) blank)) (view-place f h w g p i l)
     ∙ ap (R (has-place (view f h w g) p)) (sym (getD-table (h * w) (λ k. getD (g .cells) (f k) blank) p l))
 
-pub view-writable : (f : ℕ → ℕ) (h w : ℕ) (g : Grid) (p c : ℕ) → Into f (h * w) (length (g .cells)) → p < h * w → writable g (f p) c ≡ writable (view f h w g) p c
+view-writable : (f : ℕ → ℕ) (h w : ℕ) (g : Grid) (p c : ℕ) → Into f (h * w) (length (g .cells)) → p < h * w → writable g (f p) c ≡ writable (view f h w g) p c
 view-writable f h w g p c i l = ap (λ b. b && storable c) (view-place f h w g p i l)
 
 view-set : (f : ℕ → ℕ) (h w : ℕ) (g : Grid) (p : ℕ) (x : Cell) → Into f (h * w) (length (g .cells)) → p < h * w
@@ -79,10 +80,34 @@ view-cond : (f : ℕ → ℕ) (h w : ℕ) (g : Grid) (b : Bool) (xs : List Cell)
 view-cond f h w g true xs = refl
 view-cond f h w g false xs = refl
 
-pub view-written : (f : ℕ → ℕ) (h w : ℕ) (g : Grid) (p c : ℕ) (m : Bool) → Into f (h * w) (length (g .cells)) → p < h * w
+view-written : (f : ℕ → ℕ) (h w : ℕ) (g : Grid) (p c : ℕ) (m : Bool) → Into f (h * w) (length (g .cells)) → p < h * w
     → view f h w (written g (f p) c m) ≡ written (view f h w g) p c m
 view-written f h w g p c m i l =
     ap (with-cells (view f h w g))
     (view-cond f h w g (writable g (f p) c) (set (g .cells) (f p) (cell c m))
     ∙ ap (λ x. cond (writable g (f p) c) x (view f h w g .cells)) (view-set f h w g p (cell c m) i l)
     ∙ ap (λ b. cond b (set (view f h w g .cells) p (cell c m)) (view f h w g .cells)) (view-writable f h w g p c i l))
+
+-- a layer that looks a place up, and gets the place below or a refusal
+pub found : (f : ℕ → ℕ) (h w : ℕ) (g : Grid) (p to : ℕ) → _≡_ {A = Result ℕ Refusal} (Ok to) (on-screen (has-place (view f h w g) p) (f p)) → (p < h * w) × (to ≡ f p)
+found f h w g p to e =
+    let got = on-ok (has-place (view f h w g) p) (f p) to e in
+    (omega (arith, ltb-true p (length (view f h w g .cells)) (got .0), length-table (h * w) (λ k. getD (g .cells) (f k) blank)), got .1)
+
+pub not-found : (v : Grid) (p x : ℕ) (e : Refusal) → _≡_ {A = Result ℕ Refusal} (Err e) (on-screen (has-place v p) x) → (length (v .cells) ≤ p) × (e ≡ OffScreen)
+not-found v p x e h =
+    let q = on-err (has-place v p) x e h in
+    (ltb-false p (length (v .cells)) (q .0), q .1)
+
+-- then a read or a write below is one of the layer
+pub read-through : (f : ℕ → ℕ) (h w : ℕ) (g : Grid) (p to : ℕ) → Into f (h * w) (length (g .cells)) → _≡_ {A = Result ℕ Refusal} (Ok to) (on-screen (has-place (view f h w g) p) (f p))
+    → read-at g to ≡ read-at (view f h w g) p
+read-through f h w g p to i e = let q = found f h w g p to e in ap (read-at g) (q .1) ∙ view-read f h w g p i (q .0)
+
+pub writable-through : (f : ℕ → ℕ) (h w : ℕ) (g : Grid) (p to c : ℕ) → Into f (h * w) (length (g .cells)) → _≡_ {A = Result ℕ Refusal} (Ok to) (on-screen (has-place (view f h w g) p) (f p))
+    → writable g to c ≡ writable (view f h w g) p c
+writable-through f h w g p to c i e = let q = found f h w g p to e in ap (λ x. writable g x c) (q .1) ∙ view-writable f h w g p c i (q .0)
+
+pub written-through : (f : ℕ → ℕ) (h w : ℕ) (g : Grid) (p to c : ℕ) (m : Bool) → Into f (h * w) (length (g .cells)) → _≡_ {A = Result ℕ Refusal} (Ok to) (on-screen (has-place (view f h w g) p) (f p))
+    → view f h w (written g to c m) ≡ written (view f h w g) p c m
+written-through f h w g p to c m i e = let q = found f h w g p to e in ap (λ x. view f h w (written g x c m)) (q .1) ∙ view-written f h w g p c m i (q .0)

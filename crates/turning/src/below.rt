@@ -4,7 +4,7 @@ ghost use Prim.Native.Nat.{ℕ, _<_};
 ghost use lib.ListN.{getD};
 ghost use Rattle.screen.specs.Grid.{has-place};
 ghost use Rattle.screen.specs.Answers.{on-screen};
-ghost use Rattle.turning.specs.Order.{Permutes, fitted, under};
+ghost use Rattle.turning.specs.Order.{Permutes, fitted, under, turned-by};
 use crate::order::Order;
 use crate::order::fitting;
 use screen::interface::Screen;
@@ -26,7 +26,7 @@ pub(crate) fn place_below<S: Screen>(
     place: usize,
 ) -> Result<usize, Refusal>
     requires { ⌜ Permutes (order .at) (order .rows) ⌝ }
-    ensures { λ r. ⌜ r ≡ on-screen (has-place (grid (now (below .entry))) place) (under (fitted (order .at) (order .rows) (grid (now (below .entry)) .rows)) (grid (now (below .entry)) .columns) place) ⌝ }
+    ensures { λ r. ⌜ r ≡ on-screen (has-place (turned-by (order .at) (order .rows) (grid (now (below .entry)))) place) (under (fitted (order .at) (order .rows) (grid (now (below .entry)) .rows)) (grid (now (below .entry)) .columns) place) ⌝ }
 {
     let (row, column) = below.split(place)?;
     let rows = below.rows();

@@ -47,10 +47,10 @@ impl<'s, S: Screen> Window<'s, S> {
 pub impl<'s, S: Screen> Screen for Window<'s, S> as WindowScreen {
     ghost grid = { λ t. windowed (t .rows) (t .columns) (S·Screen .grid (now (t .below))) };
 
-    // the screen below, what it leaves untouched, and its cells outside the window
-    ghost Rest = { GName × (S·Screen .Rest × Grid) };
+    // the screen below, what it leaves untouched, the window's size, and what lies outside it below
+    ghost Rest = { GName × (S·Screen .Rest × ((ℕ × ℕ) × Grid)) };
 
-    ghost rest = { λ t. (name (t .below), (S·Screen .rest (now (t .below)), outside (t .rows) (t .columns) (S·Screen .grid (now (t .below))))) };
+    ghost rest = { λ t. (name (t .below), (S·Screen .rest (now (t .below)), ((t .rows, t .columns), outside (t .rows) (t .columns) (S·Screen .grid (now (t .below)))))) };
 
     ghost sound = { λ t. windowed-sound (t .rows) (t .columns) (S·Screen .grid (now (t .below))) (record { row-least = t .rowLeast; row-most = t .rowMost; column-least = t .columnLeast; column-most = t .columnMost }) (S·Screen .sound (now (t .below))) };
 

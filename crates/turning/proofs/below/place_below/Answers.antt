@@ -1,7 +1,12 @@
-use mathlib.Core.Path.{_∙_}
+use Prim.Native.Nat.{ℕ}
+use mathlib.Core.Path.{_≡_, _∙_}
 use native.Mathlib.Omega.{arith}
+use Rattle.std.proofs.shelf.Results.{err-from-errBy}
+use Rattle.std.specs.declared.result.Result.{Result}
+use Rattle.std.specs.declared.result.Result.the-variants.{Err}
+use Rattle.screen.specs.declared.refusal.Refusal.{Refusal}
 use Rattle.turning.proofs.Turned.{Reads, reads-permutes}
-use Rattle.turning.proofs.Through.{place-through, row-on}
+use Rattle.turning.proofs.Through.{place-through, row-on, off-through}
 use Rattle.turning.proofs.below.place_below.Needs as need
 
 pub row-below-to-requires : need.row-below-to-requires
@@ -15,6 +20,14 @@ row-below-to-requires g c κs =
       order = reads-permutes (c .args .order .at) (o .at) (c .args .order .rows) (c .rows-rows .result) (o .rows) G (c .pre) s m;
       on = omega (arith, row-on G (c .args .place) (c .in-Continue-row .row) (c .in-Continue-row .column) s (c .in-Continue-row .ensures tt), m .count, m .rows);
     }
+
+pub returns-in-Break-row : need.returns-in-Break-row
+returns-in-Break-row g c =
+    let G = g .S·Screen .grid (c .args .below .now) in
+    let F : Refusal → Result ℕ Refusal = λ y. Err y in
+    let p = err-from-errBy (c .from-residual .result) (c .from-residual .ensures .1) in
+    let r : c .from-residual .result ≡ F (c .in-Break-row .field-0 .0) = cc (p .1, p .2) in
+    r ∙ off-through (c .args .order .at) (c .args .order .rows) G (c .args .place) _ (c .in-Break-row .field-0 .0) (g .S·Screen .sound (c .args .below .now)) (c .in-Break-row .ensures tt)
 
 pub returns : need.returns
 returns g c =
