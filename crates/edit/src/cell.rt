@@ -4,9 +4,22 @@ ghost use mathlib.Core.Bool.{true};
 ghost use Prim.Native.Nat.{_%_, _<_, _≤_};
 ghost use lib.ListN.{getD};
 ghost use Rattle.screen.specs.Cells.{cell, blank, storable};
+ghost use Rattle.screen.specs.Answers.{read-at};
 ghost use Rattle.edit.specs.View.{size};
 use codes::SPACE;
 use screen::interface::Screen;
+use screen::refusal::Refusal;
+
+// The number of cells of a screen with so many rows and columns.
+fn area<S: Screen>(screen: &S, rows: usize, columns: usize) -> usize
+    requires { ⌜ rows ≡ grid (now screen) .rows ⌝ ∗ ⌜ columns ≡ grid (now screen) .columns ⌝ }
+    ensures value { λ r. ⌜ r ≡ size (grid (now (screen .entry))) ⌝ }
+    ensures some { λ r. ⌜ 0 < r ⌝ }
+    ensures wide { λ r. ⌜ grid (now (screen .entry)) .columns ≤ r ⌝ }
+    ensures most { λ r. ⌜ r ≤ 1920 ⌝ }
+{
+    rows * columns
+}
 
 pub fn cell_count<S: Screen>(screen: &S) -> usize
     ensures value { λ r. ⌜ r ≡ size (grid (now (screen .entry))) ⌝ }
@@ -14,7 +27,7 @@ pub fn cell_count<S: Screen>(screen: &S) -> usize
     ensures wide { λ r. ⌜ grid (now (screen .entry)) .columns ≤ r ⌝ }
     ensures most { λ r. ⌜ r ≤ 1920 ⌝ }
 {
-    screen.rows() * screen.columns()
+    area(screen, screen.rows(), screen.columns())
 }
 
 // A cursor as a place of the screen, going round.
@@ -25,13 +38,22 @@ pub fn on_screen<S: Screen>(screen: &S, cursor: usize) -> usize
     cursor % cell_count(screen)
 }
 
+// What a read at a place found; off the screen an open space.
+fn found_at<S: Screen>(screen: &S, place: usize, answer: Result<(u8, bool), Refusal>) -> (u8, bool)
+    requires { ⌜ answer ≡ read-at (grid (now screen)) place ⌝ }
+    ensures value { λ r. ⌜ cell (r .0) (r .1) ≡ getD (grid (now (screen .entry)) .cells) place blank ⌝ }
+    ensures stored { λ r. ⌜ storable (r .0) ≡ true ⌝ }
+{
+    match answer {
+        Ok(found) => found,
+        Err(_) => (SPACE, false),
+    }
+}
+
 // The cell at a place; off the screen an open space.
 pub fn cell_at<S: Screen>(screen: &S, place: usize) -> (u8, bool)
     ensures value { λ r. ⌜ cell (r .0) (r .1) ≡ getD (grid (now (screen .entry)) .cells) place blank ⌝ }
     ensures stored { λ r. ⌜ storable (r .0) ≡ true ⌝ }
 {
-    match screen.read(place) {
-        Ok(found) => found,
-        Err(_) => (SPACE, false),
-    }
+    found_at(screen, place, screen.read(place))
 }

@@ -88,9 +88,6 @@ is-held s = held-by (s .holds)
     held-by true = refl
     held-by false = refl
 
-pub held-same : (s t : State) → s .holds ≡ t .holds → s .text ≡ t .text → held-of s ≡ held-of t
-held-same s t h e = ap (λ b. cond b (Some (text-of (s .text))) None) h ∙ ap (λ x. cond (t .holds) (Some (text-of x)) None) e
-
 -- a place going round goes round no further
 pub at-again : (g : Grid) (p : ℕ) → at g (p % size g) ≡ at g p
 at-again g p = ap (view g) (mod-mod p (size g))

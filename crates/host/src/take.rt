@@ -2,11 +2,13 @@
 ghost use mathlib.Core.Path.{_≡_};
 ghost use mathlib.Core.Bool.{true, false, not, _&&_, _||_};
 ghost use Rattle.std.specs.declared.option.Option.the-variants.{Some, None};
-ghost use Rattle.edit.specs.View.{at};
+ghost use Prim.Native.Nat.{_<_};
+ghost use Rattle.edit.specs.View.{size, at};
 ghost use Rattle.transmission.specs.Text.{taken};
-ghost use Rattle.host.specs.Carrying.{is-lock, is-light, took, or-else, held-of};
+ghost use Rattle.host.specs.Carrying.{is-lock, is-light, took, or-else, is-some, held-of};
 use crate::effect::Effect;
 use crate::state::State;
+use edit::cell::on_screen;
 use screen::interface::Screen;
 use transmission::held::HeldText;
 use transmission::kind::Kind;
@@ -67,16 +69,35 @@ impl State {
         }
     }
 
-    // At a text's end a held text locks too; answers whether it is new.
+    // Whether the text of a transmission is held.
+    pub fn is_held(&self) -> bool
+        ensures { λ r. ⌜ r ≡ is-some (held-of (now (self .entry))) ⌝ }
+    {
+        self.holds
+    }
+
+    // At a text's beginning: the cursor on the screen, and no lock code yet.
+    pub(crate) fn open<S: Screen>(&mut self, screen: &S)
+        ensures cursor { λ _. ⌜ at (grid (now (screen .entry))) (now (self .exit) .cursor) ≡ at (grid (now (screen .entry))) (now (self .entry) .cursor) ⌝ }
+        ensures on { λ _. ⌜ now (self .exit) .cursor < size (grid (now (screen .entry))) ⌝ }
+        ensures locked { λ _. ⌜ now (self .exit) .locked ≡ false ⌝ }
+        ensures light { λ _. ⌜ now (self .exit) .light ≡ now (self .entry) .light ⌝ }
+        ensures held { λ _. ⌜ held-of (now (self .exit)) ≡ held-of (now (self .entry)) ⌝ }
+    {
+        self.cursor = on_screen(screen, self.cursor);
+        self.locked = false;
+    }
+
+    // At a text's end: a held text locks too. Answers whether it is new.
     pub(crate) fn close(&mut self, held: bool) -> bool
         ensures cursor { λ _. ⌜ now (self .exit) .cursor ≡ now (self .entry) .cursor ⌝ }
-        ensures locked { λ _. ⌜ now (self .exit) .locked ≡ (now (self .entry) .locked || now (self .entry) .holds) ⌝ }
+        ensures locked { λ _. ⌜ now (self .exit) .locked ≡ (now (self .entry) .locked || is-some (held-of (now (self .exit)))) ⌝ }
         ensures light { λ _. ⌜ now (self .exit) .light ≡ now (self .entry) .light ⌝ }
-        ensures holds { λ _. ⌜ now (self .exit) .holds ≡ now (self .entry) .holds ⌝ }
-        ensures text { λ _. ⌜ now (self .exit) .text ≡ now (self .entry) .text ⌝ }
-        ensures answer { λ r. ⌜ r ≡ (now (self .entry) .holds && not held) ⌝ }
+        ensures held { λ _. ⌜ held-of (now (self .exit)) ≡ held-of (now (self .entry)) ⌝ }
+        ensures answer { λ r. ⌜ r ≡ (is-some (held-of (now (self .exit))) && not held) ⌝ }
     {
-        self.locked = self.locked || self.holds;
-        self.holds && !held
+        let holds = self.is_held();
+        self.locked = self.locked || holds;
+        holds && !held
     }
 }

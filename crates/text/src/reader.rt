@@ -1,5 +1,7 @@
 // A reader that hands out the steps of a text one by one.
 ghost use mathlib.Core.Path.{_≡_};
+ghost use mathlib.Core.Bool.{true, false};
+ghost use mathlib.Core.List.{[], _∷_};
 ghost use Prim.Native.Nat.{_+_, _<_, _≤_};
 ghost use lib.ListN.{length, drop};
 ghost use Rattle.std.specs.shelf.Lists.{leading};
@@ -84,17 +86,34 @@ impl<'a> Reader<'a> {
         Reader { text, place: 0 }
     }
 
+    // Whether every octet of the text is taken.
+    fn is_done(&self) -> bool
+        ensures done { λ r. ⌜ (r ≡ true → unread (now (self .entry)) ≡ []) ⌝ }
+        ensures more { λ r. ⌜ (r ≡ false → now (self .entry) .place < length (now (now (self .entry) .text))) ⌝ }
+    {
+        self.place >= self.text.len()
+    }
+
+    // Takes the step at the reader's place.
+    fn take(&mut self) -> Step<'a>
+        requires { ⌜ now self .place < length (now (now self .text)) ⌝ }
+        ensures { λ r. ⌜ unread (now (self .entry)) ≡ shown r ∷ unread (now (self .exit)) ⌝ }
+    {
+        let text = self.text;
+        let at = self.place;
+        let (step, taken) = step_at(text, at);
+        self.place = at + taken;
+        step
+    }
+
     // The next step; none once every octet of the text is taken.
     pub fn next(&mut self) -> Option<Step<'a>>
         ensures { λ r. ⌜ unread (now (self .entry)) ≡ handed r (unread (now (self .exit))) ⌝ }
     {
-        let text = self.text;
-        let at = self.place;
-        if at >= text.len() {
-            return None;
+        if self.is_done() {
+            None
+        } else {
+            Some(self.take())
         }
-        let (step, taken) = step_at(text, at);
-        self.place = at + taken;
-        Some(step)
     }
 }

@@ -4,4 +4,4 @@ use Rattle.host.proofs.examples.examples_hold.Needs as need
 
 pub returns : need.returns
 unfolding storable
-returns c = record { last = refl; off = refl; rows = (refl, refl); count = refl }
+returns c = record { last = refl; off = refl; rows = (refl, refl) }

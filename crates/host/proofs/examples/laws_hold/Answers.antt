@@ -1,6 +1,5 @@
-use mathlib.Core.Path.{refl}
 use Rattle.host.proofs.Steps.{drawn-all-on}
 use Rattle.host.proofs.examples.laws_hold.Needs as need
 
 pub returns : need.returns
-returns c = record { stay = drawn-all-on; count = refl }
+returns c = record { stay = drawn-all-on }

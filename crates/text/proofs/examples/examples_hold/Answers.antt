@@ -2,4 +2,4 @@ use mathlib.Core.Path.{refl}
 use Rattle.text.proofs.examples.examples_hold.Needs as need
 
 pub returns : need.returns
-returns c = record { addresses = refl; third = refl; early = refl; twice = refl; count = refl }
+returns c = record { addresses = refl; third = refl; early = refl; twice = refl }

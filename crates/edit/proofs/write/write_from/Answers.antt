@@ -5,10 +5,10 @@ use lib.ListN.{getD, take}
 use Rattle.std.proofs.shelf.Sums.{folded-more}
 use Rattle.std.proofs.shelf.Lists.{take-all}
 use Rattle.std.proofs.shelf.Bits.{mod-below}
-use Rattle.edit.specs.View.{size, view, at}
+use Rattle.edit.specs.View.{size, view}
 use Rattle.edit.specs.Writing.{typed, typed-run}
 use Rattle.edit.proofs.Sizes.{size-written}
-use Rattle.edit.proofs.write.write_run.Needs as need
+use Rattle.edit.proofs.write.write_from.Needs as need
 
 pub loop-code-again : need.loop-code-again
 loop-code-again g c =
@@ -19,7 +19,7 @@ loop-code-again g c =
     let m = c .args .protected in
     let inv = c .loop-code .inv in
     let e = c .write .ensures in
-    let start = at (g .S·Screen .grid (c .args .screen .now)) (c .args .cursor) in
+    let start = view (g .S·Screen .grid (c .args .screen .now)) (c .args .from) in
     let count = c .cell-count-count .ensures .value in
     let next = c .round-place .ensures ∙ ap (λ n. (c .loop-code .place + 1) % n) (count ∙ sym (inv .1)) in (
       e .rest ∙ inv .0,
@@ -34,7 +34,7 @@ loop-code-again g c =
 pub returns : need.returns
 returns g c =
     let run = c .args .run .now in
-    let start = at (g .S·Screen .grid (c .args .screen .now)) (c .args .cursor) in
+    let start = view (g .S·Screen .grid (c .args .screen .now)) (c .args .from) in
     record {
       rest = c .loop-code .inv .0;
       view = c .loop-code .inv .3 ∙ ap (λ r. typed-run (c .args .protected) r start) (take-all (c .loop-code .code-index) run (c .loop-code-test .left));

@@ -2,15 +2,10 @@ use native.Mathlib.Omega.{arith}
 use Prim.Native.Nat.{_+_}
 use mathlib.Core.Path.{_≡_, sym, ap, _∙_}
 use mathlib.Core.List.{_∷_}
-use lib.ListN.{length, getD, drop, length-drop}
-use Rattle.std.proofs.shelf.Lists.{at-drop-all}
+use lib.ListN.{getD, drop, length-drop}
 use Rattle.text.specs.Steps.{steps, piece-at}
-use Rattle.text.specs.Shown.{shown}
 use Rattle.text.proofs.Pieces.{steps-more, none-over}
-use Rattle.text.proofs.reader.Reader.next.Needs as need
-
-pub returns-then-at-text : need.returns-then-at-text
-returns-then-at-text c = let s = c .args .self .now in at-drop-all (steps (s .place) 0) (s .text .now) (s .place) (c .if-at-text .taken)
+use Rattle.text.proofs.reader.Reader.take.Needs as need
 
 pub add-self : need.add-self
 add-self c =
@@ -21,6 +16,6 @@ pub returns : need.returns
 returns c =
     let t = c .args .self .now .text .now in let at = c .args .self .now .place in
     let e = c .step-at-taken .ensures in
-    steps-more at t (c .if-at-text .left)
+    steps-more at t (c .pre)
     ∙ ap (λ n. piece-at at t .step ∷ steps (at + n) 0 (drop (at + n) t)) (sym (e .taken))
     ∙ ap (λ s. s ∷ steps (at + c .step-at-taken .result .1) 0 (drop (at + c .step-at-taken .result .1) t)) (sym (e .step))

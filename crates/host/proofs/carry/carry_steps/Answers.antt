@@ -1,20 +1,19 @@
 use mathlib.Core.Path.{_≡_, sym, ap, _∙_}
 use mathlib.Core.List.{_∷_}
-use mathlib.Core.Bool.{false, _||_, _&&_, not}
-use Rattle.text.specs.Steps.{steps-of}
+use mathlib.Core.Bool.{_||_}
 use Rattle.text.specs.Shown.{shown, unread}
-use Rattle.edit.specs.View.{view, at}
+use Rattle.edit.specs.View.{at}
 use Rattle.host.specs.Drawing.{effect, protects, drawn, drawn-all}
-use Rattle.host.specs.Carrying.{is-lock, is-light, some-step, took, taking, or-else, is-some, held-of}
-use Rattle.host.proofs.Steps.{at-view, at-again, drawn-step, or-assoc, or-false, or-else-assoc, or-else-none, is-held, held-same}
-use Rattle.host.proofs.carry.carry_out.Needs as need
+use Rattle.host.specs.Carrying.{is-lock, is-light, some-step, took, taking, or-else, held-of}
+use Rattle.host.proofs.Steps.{at-view, drawn-step, or-assoc, or-false, or-else-assoc, or-else-none}
+use Rattle.host.proofs.carry.carry_steps.Needs as need
 
 pub loop-step-again : need.loop-step-again
 loop-step-again g c =
     let here = g .S·Screen .grid (c .loop-step .screen) in
     let there = g .S·Screen .grid (c .draw-state .last .screen) in
     let was = c .loop-step .state in
-    let p = c .loop-step .protected in
+    let p = c .loop-step .mark in
     let v = at here (was .cursor) in
     let s = shown (c .in-Some .step) in
     let ss = unread (c .next .last .self) in
@@ -25,7 +24,7 @@ loop-step-again g c =
     let next = sym (c .in-Some .ensures tt) in
     let q = drawn-step here there (c .note .last .self .cursor) (c .draw-state .result) p s (g .S·Screen .sound (c .loop-step .screen)) (e .view) in
     let after = q .1 ∙ ap (λ k. drawn p s (at here k)) (n .cursor) in
-    let m = c .protects-protected .ensures in (
+    let m = c .protects-mark .ensures in (
       e .rest ∙ i .0,
       q .0,
       ap (λ b. drawn-all b ss (at there (c .draw-state .result))) m ∙ ap (drawn-all (protects p s) ss) after ∙ ap (λ x. drawn-all p x v) next ∙ i .2,
@@ -46,28 +45,15 @@ loop-step-again g c =
 
 pub returns : need.returns
 returns g c =
-    let first = g .S·Screen .grid (c .args .screen .now) in
     let here = g .S·Screen .grid (c .loop-step .screen) in
     let last = c .loop-step .state in
-    let p = c .loop-step .protected in
-    let ss = steps-of (c .args .text .now) in
-    let old = held-of (c .args .state .now) in
+    let p = c .loop-step .mark in
     let i = c .loop-step .inv in
-    let e = c .close .ensures in
     let end = sym (c .in-rest .ensures tt) in
-    let start : at first (c .on-screen-state .result) ≡ at first (c .args .state .now .cursor) = ap (at first) (c .on-screen-state .ensures .value) ∙ at-again first (c .args .state .now .cursor) in
     record {
       rest = i .0;
-      view = ap (view here) (e .cursor) ∙ sym (at-view here (last .cursor) (i .1)) ∙ ap (λ x. drawn-all p x (at here (last .cursor))) end ∙ i .2 ∙ ap (drawn-all false ss) start;
-      locked = e .locked
-          ∙ ap (λ b. b || last .holds) (sym (or-false (last .locked)) ∙ ap (λ x. last .locked || some-step is-lock x) end ∙ i .3)
-          ∙ ap (λ b. some-step is-lock ss || b) (sym (e .holds) ∙ sym (is-held (c .close .last .self)));
-      light = e .light ∙ sym (or-false (last .light)) ∙ ap (λ x. last .light || some-step is-light x) end ∙ i .4;
-      held = held-same (c .close .last .self) last (e .holds) (e .text)
-          ∙ sym (or-else-none (held-of last))
-          ∙ ap (λ x. or-else (held-of last) (taking p x (at here (last .cursor)))) end
-          ∙ i .5
-          ∙ ap (λ v. or-else old (taking false ss v)) start;
-      answer = e .answer ∙ ap (λ b. b && not (c .args .state .now .holds)) (sym (e .holds) ∙ sym (is-held (c .close .last .self)))
-          ∙ ap (λ b. is-some (held-of (c .close .last .self)) && not b) (sym (is-held (c .args .state .now)));
+      view = sym (at-view here (last .cursor) (i .1)) ∙ ap (λ x. drawn-all p x (at here (last .cursor))) end ∙ i .2;
+      locked = sym (or-false (last .locked)) ∙ ap (λ x. last .locked || some-step is-lock x) end ∙ i .3;
+      light = sym (or-false (last .light)) ∙ ap (λ x. last .light || some-step is-light x) end ∙ i .4;
+      held = sym (or-else-none (held-of last)) ∙ ap (λ x. or-else (held-of last) (taking p x (at here (last .cursor)))) end ∙ i .5;
     }
