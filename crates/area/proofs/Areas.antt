@@ -43,3 +43,8 @@ over-written xs ys a =
     ∙ ap (λ d. xs ++ (ys ++ d)) (drop-drop (length ys) n a)
     ∙ sym (append-assoc xs ys (drop (n + length ys) a))
     ∙ ap (λ m. (xs ++ ys) ++ drop m a) (sym (length-append xs ys))
+
+pub written-one : (a : List ℕ) (p y : ℕ) → p < length a → set a p y ≡ written-at a p (y ∷ [])
+written-one a p y h =
+    let here : p + 0 ≡ p = omega arith in
+    ap (λ b. set b p y) (written-none a p) ∙ ap (λ n. set (written-at a p []) n y) (sym here) ∙ written-push a p [] y (omega arith)
