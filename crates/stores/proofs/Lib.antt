@@ -1,0 +1,3 @@
+mod Masks
+mod Front
+mod Words

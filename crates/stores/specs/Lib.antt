@@ -1,0 +1,5 @@
+pub mod Size
+pub mod Front
+pub mod Words
+pub mod Marks
+pub mod Maps
