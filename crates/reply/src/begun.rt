@@ -9,11 +9,13 @@ ghost use Rattle.reply.specs.Octets.{octets, so-far};
 ghost use Rattle.reply.specs.Steps.{begun, closed, longer, begins, puts, closes};
 ghost use Rattle.reply.specs.Progress.{Holds, Begins, Extends, Ends};
 ghost use Rattle.std.specs.declared.result.Result.the-variants.{Ok};
-use crate::lead::write_lead;
+use crate::octets::send;
+use crate::octets::write_lead;
 use area::Refusal;
 use area::has_room;
 use codes::SOH;
 use line::Line;
+use receiver::check::block_check;
 
 // A reply that takes characters: the place of its next octet, and the exclusive or of its characters so far.
 #[derive(Drop)]
@@ -100,11 +102,7 @@ impl Begun {
         ensures holds { λ r. ⌜ Holds (L·Line .kind) (now (area .entry)) (now (first .entry)) [] r (now (area .exit)) ⌝ }
     {
         write_lead(line, area);
-        let reply = Begun {
-            place: L::lead_length(),
-            sum: 0,
-        };
-        let Begun { place, sum: _ } = reply.write(line, area, first);
+        let place = send(line, area, L::lead_length(), first);
         Begun { place, sum: 0 }
     }
 
@@ -115,13 +113,11 @@ impl Begun {
         ensures reply { λ r. ⌜ r ≡ longer self (now (characters .entry)) ⌝ }
         ensures extends { λ r. ⌜ Extends (L·Line .kind) self (now (area .entry)) (now (characters .entry)) (Ok r) (now (area .exit)) ⌝ }
     {
-        let Begun { mut place, mut sum } = self;
-        for character in characters {
-            area[place] = line.encode(*character);
-            place += 1;
-            sum ^= *character;
+        let Begun { place, sum } = self;
+        Begun {
+            place: send(line, area, place, characters),
+            sum: sum ^ block_check(characters),
         }
-        Begun { place, sum }
     }
 
     // The check, which has room.

@@ -4,7 +4,7 @@ use lib.ListN.{replicate, set}
 use Rattle.codes.specs.Ascii.{SYN}
 use Rattle.area.specs.Over.{over}
 use Rattle.reply.proofs.Sending.{lead-more}
-use Rattle.reply.proofs.lead.write_lead.Needs as need
+use Rattle.reply.proofs.octets.write_lead.Needs as need
 
 pub loop-i-again : need.loop-i-again
 loop-i-again g c =

@@ -1,0 +1,1 @@
+use Rattle.page.proofs.number.first_number.Needs as need

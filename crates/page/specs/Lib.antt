@@ -1,0 +1,5 @@
+pub mod Refusals
+pub mod Numbers
+pub mod Pages
+pub mod Calls
+pub mod Walk
