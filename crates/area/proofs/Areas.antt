@@ -7,17 +7,14 @@ use lib.ListN.{length, take, drop, set, getD, length-append, length-drop, length
 use Rattle.std.proofs.shelf.Lists.{append-assoc, append-nil, set-at, take-at, drop-at, drop-drop, drop-more, length-push, take-append-drop, set-append-right, length-take-le}
 use Rattle.area.specs.Over.{over, written-at}
 
-pub length-over : (xs a : List ℕ) → length xs ≤ length a → length (over xs a) ≡ length a
+pub length-over : {A : Type 0} (xs a : List A) → length xs ≤ length a → length (over xs a) ≡ length a
 length-over xs a h = simp (length-append, length-drop) (omega arith)
 
--- nothing is written yet; one octet more
-pub over-none : (a : List ℕ) → a ≡ over [] a
-over-none a = refl
-
-pub over-push : (xs a : List ℕ) (y : ℕ) → length xs < length a → set (over xs a) (length xs) y ≡ over (xs ++ (y ∷ [])) a
+-- one element more
+pub over-push : {A : Type 0} (xs a : List A) (y : A) → length xs < length a → set (over xs a) (length xs) y ≡ over (xs ++ (y ∷ [])) a
 over-push xs a y h =
-    ap (λ d. set (xs ++ d) (length xs) y) (drop-more a (length xs) 0 h)
-    ∙ set-at xs (getD a (length xs) 0) (drop (length xs + 1) a) y (length xs) refl
+    ap (λ d. set (xs ++ d) (length xs) y) (drop-more a (length xs) y h)
+    ∙ set-at xs (getD a (length xs) y) (drop (length xs + 1) a) y (length xs) refl
     ∙ sym (append-assoc xs (y ∷ []) (drop (length xs + 1) a))
     ∙ ap (λ n. (xs ++ (y ∷ [])) ++ drop n a) (sym (length-push xs y))
 

@@ -10,7 +10,7 @@ abbrev pub fits : List ℕ → ℕ → ℕ → Bool
 fits area place count = leb (place + count) (length area)
 
 -- the octets, and behind them what was there before
-abbrev pub over : List ℕ → List ℕ → List ℕ
+abbrev pub over : {A : Type 0} → List A → List A → List A
 over octets area = octets ++ drop (length octets) area
 
 -- the area with the octets from a place on, and before and behind them what was there

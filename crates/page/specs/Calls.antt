@@ -4,11 +4,11 @@ use mathlib.Core.Bool.{Bool, cond, _&&_}
 use mathlib.Core.List.{List}
 use Prim.Native.Nat.{ℕ}
 use lib.Dec.{eqb}
-use lib.ListN.{length, take}
+use lib.ListN.{length}
 use Rattle.std.specs.declared.result.Result.{Result}
 use Rattle.std.specs.declared.result.Result.the-variants.{Ok, Err}
 use Rattle.area.specs.Over.{fits, over}
-use Rattle.screen.specs.Grid.{Grid, Sound, has-place, with-cells}
+use Rattle.screen.specs.Grid.{Grid, has-place, with-cells}
 use Rattle.page.specs.declared.refusal.Refusal.{Refusal}
 use Rattle.page.specs.declared.refusal.Refusal.the-variants.{ShortArea, OffScreen, WrongSize}
 use Rattle.page.specs.Pages.{Page, page-octets, page-in}
@@ -50,3 +50,8 @@ draws g (Ok p) =
 
 abbrev pub reads : Grid → List ℕ → Drawn
 reads g os = draws g (page-in os)
+
+-- the octets put the cells of g and the cursor place on every screen of its size
+abbrev pub ReadsBack : Grid → ℕ → List ℕ → Type 0
+ReadsBack g cursor os =
+    (h : Grid) → h .rows ≡ g .rows → h .columns ≡ g .columns → reads h os ≡ record { grid = with-cells h (g .cells); answer = Ok cursor }

@@ -3,3 +3,4 @@ pub mod Numbers
 pub mod Pages
 pub mod Calls
 pub mod Walk
+pub mod Checks

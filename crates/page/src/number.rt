@@ -10,7 +10,8 @@ use crate::refusal::Refusal;
 
 // How many octets a number takes.
 pub(crate) fn number_length(n: usize) -> usize
-    ensures { λ r. ⌜ r ≡ length (number n) ⌝ }
+    ensures length { λ r. ⌜ r ≡ length (number n) ⌝ }
+    ensures few { λ r. ⌜ r ≤ 2 ⌝ }
 {
     if n < 0x80 { 1 } else { 2 }
 }
@@ -27,4 +28,20 @@ pub(crate) fn first_number(octets: &[u8]) -> Result<(usize, usize), Refusal>
         [_, _, ..] => Err(Refusal::WrongNumber),
         _ => Err(Refusal::CutShort),
     }
+}
+
+// Writes a number's octets from a place on, where they have room, and answers the place behind them.
+pub(crate) fn put_number(area: &mut [u8], place: usize, n: usize) -> usize
+    requires small { ⌜ n < 2 ^ 14 ⌝ }
+    requires room { ⌜ place + length (number n) ≤ length (now area) ⌝ }
+    ensures area { λ _. ⌜ now (area .exit) ≡ written-at (now (area .entry)) place (number n) ⌝ }
+    ensures next { λ r. ⌜ r ≡ place + length (number n) ⌝ }
+{
+    if n < 0x80 {
+        area[place] = n as u8;
+        return place + 1;
+    }
+    area[place] = (0x80 + n % 0x80) as u8;
+    area[place + 1] = (n / 0x80) as u8;
+    place + 2
 }

@@ -14,9 +14,9 @@ returns g c =
     let first = c .args .first .now in
     let before = c .args .area .now in
     let written : c .send-place .last .area ≡ over (so-far k first []) before =
-        c .send-place .ensures .area
-        ∙ ap (λ a. written-at a (c .lead-length .result) (octets k first)) (c .write-lead .ensures)
-        ∙ ap (λ n. written-at (over (lead k) before) n (octets k first)) (c .lead-length .ensures)
-        ∙ opens k first before in
+    c .send-place .ensures .area
+    ∙ ap (λ a. written-at a (c .lead-length .result) (octets k first)) (c .write-lead .ensures)
+    ∙ ap (λ n. written-at (over (lead k) before) n (octets k first)) (c .lead-length .ensures)
+    ∙ opens k first before in
     let place : c .send-place .result ≡ k .lead + length first = c .send-place .ensures .next ∙ ap (λ n. n + length first) (c .lead-length .ensures) in
     record { area = written; reply = ap (λ p. begun p 0) place; holds = record { place = place ∙ opens-at k first; sum = refl; octets = written } }

@@ -1,1 +1,0 @@
-use Rattle.page.proofs.number.first_number.Needs as need
