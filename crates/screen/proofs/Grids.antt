@@ -8,15 +8,15 @@ use borrow.Author.Needs.{needs}
 use lib.Dec.{ltb}
 use lib.ListN.{length, getD, set, drop, replicate}
 use lib.Seq.{paste}
-use Rattle.std.proofs.shelf.Tests.{lt-ltb, and-from, cond-true}
-use Rattle.std.proofs.shelf.Lists.{places}
+use Rattle.std.proofs.shelf.Tests.{ltb-true, lt-ltb, and-from, and-parts, cond-true, cond-both}
+use Rattle.std.proofs.shelf.Lists.{places, length-set, getD-set-same, getD-set-other}
 use Rattle.std.proofs.shelf.Edits.{paste-none, fill-from-more}
 use Rattle.std.specs.declared.result.Result.the-variants.{Ok}
 use Rattle.codes.specs.Ascii.{SPACE}
 use Rattle.screen.specs.Cells.{Cell, cell, blank, storable}
 use Rattle.screen.specs.Rows.{clear-row, remove-row, insert-row}
 use Rattle.screen.specs.Grid.{Grid, Sound, with-cells, has-place, has-row, writable, written, copied, cleared, removed, inserted}
-use Rattle.screen.specs.Answers.{done-if}
+use Rattle.screen.specs.Answers.{on-screen, done-if, parts, read-at}
 use Rattle.screen.proofs.Cells.{space-storable}
 use Rattle.screen.proofs.Rows.{rows-apart, rows-after, up-more, down-more, up-all, down-all}
 
@@ -28,6 +28,26 @@ write-done g p c l s = sym (ap done-if (and-from _ _ (has-this-place g p l) s))
 
 pub writes : (g : Grid) (p c : ℕ) (m : Bool) → p < length (g .cells) → storable c ≡ true → written g p c m ≡ with-cells g (set (g .cells) p (cell c m))
 writes g p c m l s = ap (with-cells g) (cond-true (writable g p c) _ _ (and-from _ _ (has-this-place g p l) s))
+
+-- what was written reads back, and every other place reads as before
+pub reads-back : (g : Grid) (p c : ℕ) (m : Bool) → writable g p c ≡ true → read-at (written g p c m) p ≡ Ok (c, m)
+reads-back g p c m h =
+    let both = and-parts (has-place g p) (storable c) h in
+    let on : p < length (g .cells) = ltb-true p (length (g .cells)) (both .0) in
+    let g′ : Grid = with-cells g (set (g .cells) p (cell c m)) in
+    let here : has-place g′ p ≡ true = has-this-place g′ p (omega (arith, length-set (g .cells) p (cell c m))) in
+    ap (λ x. read-at x p) (writes g p c m on (both .1))
+    ∙ ap (λ b. on-screen b (parts (getD (g′ .cells) p blank))) here
+    ∙ ap (λ x. on-screen true (parts x)) (getD-set-same (g .cells) p (cell c m) blank on)
+
+pub reads-other : (g : Grid) (p c : ℕ) (m : Bool) (k : ℕ) → (k ≡ p → ⊥) → read-at (written g p c m) k ≡ read-at g k
+reads-other g p c m k ne =
+    let P : List Cell → Type 0 = λ xs. read-at (with-cells g xs) k ≡ read-at g k in
+    cond-both (writable g p c) (set (g .cells) p (cell c m)) (g .cells) P
+    (λ _.
+    ap (λ n. on-screen (ltb k n) (parts (getD (set (g .cells) p (cell c m)) k blank))) (length-set (g .cells) p (cell c m))
+    ∙ ap (λ x. on-screen (has-place g k) (parts x)) (getD-set-other (g .cells) p k (cell c m) blank ne))
+    (λ _. refl)
 
 pub copies : (g : Grid) (to from : ℕ) → to < length (g .cells) → from < length (g .cells) → copied g to from ≡ with-cells g (set (g .cells) to (getD (g .cells) from blank))
 copies g to from a b = ap (with-cells g) (cond-true (has-place g from && has-place g to) _ _ (and-from _ _ (has-this-place g from b) (has-this-place g to a)))

@@ -1,3 +1,4 @@
 mod Masks
 mod Front
 mod Words
+mod Maps

@@ -1,5 +1,5 @@
 -- The sizes that a store can have.
-use Prim.Native.Nat.{ℕ, _*_, _≤_}
+use Prim.Native.Nat.{ℕ, _*_, _/_, _≤_}
 use mathlib.Core.Path.{_≡_}
 use mathlib.Core.Bool.{Bool, true, _&&_, _||_}
 use mathlib.Core.Logic.{_⊎_, inl, inr, ⊎-elim}
@@ -37,4 +37,12 @@ allowed-sized r c h =
     ⊎-elim
     (λ a. size-of r c 80 12 24 (omega arith) (either r c 80 12 24 a))
     (λ a. size-of r c 64 16 24 (omega arith) (either r c 64 16 24 a))
+    (or-cases (eqb c 80 && (eqb r 12 || eqb r 24)) (eqb c 64 && (eqb r 16 || eqb r 24)) h)
+
+-- a row has whole bytes of marks
+pub allowed-bytes : (r c : ℕ) → allowed r c ≡ true → c ≡ 8 * (c / 8)
+allowed-bytes r c h =
+    ⊎-elim
+    (λ a. omega (arith, either r c 80 12 24 a .0))
+    (λ a. omega (arith, either r c 64 16 24 a .0))
     (or-cases (eqb c 80 && (eqb r 12 || eqb r 24)) (eqb c 64 && (eqb r 16 || eqb r 24)) h)

@@ -1,5 +1,6 @@
 ghost use mathlib.Core.Path.{_≡_};
 ghost use mathlib.Core.Bool.{true, false};
+ghost use Prim.Native.Nat.{ℕ, _*_, _≤_};
 ghost use lib.ListN.{length};
 ghost use Rattle.std.specs.Results.{Cases};
 ghost use Rattle.screen.specs.declared.refusal.Refusal.the-variants.{WrongSize};
@@ -17,7 +18,7 @@ pub struct Size {
 impl Size {
     // One of the four sizes, or the refusal 14.
     pub fn new(rows: usize, columns: usize) -> Result<Size, Refusal>
-        ensures { λ r. ⌜ Cases r (λ s. (allowed rows columns ≡ true) × (s .rows ≡ rows) × (s .columns ≡ columns)) (λ e. (allowed rows columns ≡ false) × (e ≡ WrongSize)) ⌝ }
+        ensures { λ r. ⌜ Cases r (λ s. (s .rows ≡ rows) × (s .columns ≡ columns)) (λ e. (allowed rows columns ≡ false) × (e ≡ WrongSize)) ⌝ }
     {
         if is_allowed(rows, columns) {
             Ok(Size { rows, columns })
@@ -28,7 +29,7 @@ impl Size {
 
     // One of the four sizes that the area has a word for each cell of, or the refusal 14.
     pub fn in_area(area: &[u16], rows: usize, columns: usize) -> Result<Size, Refusal>
-        ensures { λ r. ⌜ Cases r (λ s. (has-room rows columns (length (now (area .entry))) ≡ true) × (s .rows ≡ rows) × (s .columns ≡ columns)) (λ e. (has-room rows columns (length (now (area .entry))) ≡ false) × (e ≡ WrongSize)) ⌝ }
+        ensures { λ r. ⌜ Cases r (λ s. (s .rows ≡ rows) × (s .columns ≡ columns) × (s .rows * s .columns ≤ length (now (area .entry)))) (λ e. (has-room rows columns (length (now (area .entry))) ≡ false) × (e ≡ WrongSize)) ⌝ }
     {
         if is_allowed(rows, columns) && rows * columns <= area.len() {
             Ok(Size { rows, columns })

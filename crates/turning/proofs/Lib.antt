@@ -1,0 +1,3 @@
+mod Turns
+mod Turned
+mod Through

@@ -1,0 +1,4 @@
+// A screen over any screen that keeps an order of rows, and moves no cell to remove or insert one.
+pub(crate) mod below;
+pub mod order;
+pub mod turning;
