@@ -36,7 +36,13 @@ fn random_pages_there_and_back() -> Result<(), Fail> {
 #[test]
 fn numbers() -> Result<(), Fail> {
     check_eq(Reader::new(&[0xac, 0x02]).number(), Ok(300))?;
-    check_eq(Reader::new(&[0x81, 0x00]).number(), Err(Refusal::WrongNumber))?;
+    check_eq(
+        Reader::new(&[0x81, 0x00]).number(),
+        Err(Refusal::WrongNumber),
+    )?;
     check_eq(Reader::new(&[0x81]).number(), Err(Refusal::CutShort))?;
-    check_eq(Reader::new(&[0x81, 0x80]).number(), Err(Refusal::WrongNumber))
+    check_eq(
+        Reader::new(&[0x81, 0x80]).number(),
+        Err(Refusal::WrongNumber),
+    )
 }

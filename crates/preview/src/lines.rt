@@ -1,4 +1,5 @@
 // The lines of a script that speak of a screen.
+use crate::pages;
 use codes::SPACE;
 use host::carry::carry_out;
 use host::state::State;
@@ -45,6 +46,8 @@ pub fn line<R: Read, W: Write, S: Stacked>(
         b"insert" => insert(words, out, screen),
         b"show" => show(words, out, screen, state),
         b"below" => below(words, out, screen),
+        b"pagewrite" => pages::write(heap, words, out, screen),
+        b"pageread" => pages::read(heap, words, out, screen),
         _ => Err(words.error(Problem::UnknownLine)),
     }
 }

@@ -1,6 +1,7 @@
 // The form preview: carries host texts out on a screen and shows what they draw.
 mod form;
 mod lines;
+mod pages;
 mod session;
 
 use form::Unfit;
@@ -27,6 +28,8 @@ the host text in a file on a new screen, 24x80 unless another size is given
   remove ROW                 insert ROW
   show                       print the state
   below                      print the lowest screen whole
+  pagewrite AREA CURSOR      write the screen as a page into an area of AREA octets
+  pageread HH ..             read a page into the screen
 Blank lines and everything from # on are skipped.";
 
 fn complain(rt: &LibcRuntime, problem: impl Display + Drop) -> Result<(), ()> {

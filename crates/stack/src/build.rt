@@ -17,6 +17,9 @@ use turning::turning::Turning;
 use window::extent::Extent;
 use window::window::Window;
 
+// A store never touches words further on, so an area of more need not be made.
+const MOST_WORDS: usize = 4096;
+
 // What is done with a screen, whatever stack it is.
 pub trait Visitor {
     fn visit<S: Stacked>(&mut self, screen: &mut S);
@@ -121,7 +124,7 @@ pub fn build<V: Visitor>(
 ) -> Result<Result<(), Refusal>, AllocError> {
     match stack.store {
         Store::Words(rows, columns, words) => {
-            let mut area = vec![in heap; 0u16; words]?;
+            let mut area = vec![in heap; 0u16; words.min(MOST_WORDS)]?;
             Ok(over_words(&mut area, rows, columns, stack, visitor))
         }
         Store::Bits(rows, columns) => Ok(over_bits(rows, columns, stack, visitor)),

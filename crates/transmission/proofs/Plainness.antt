@@ -87,12 +87,19 @@ opening-plain : (v : View) (s : ℕ) → On-screen v → s ≤ v .cursor → All
 opening-plain v s k l =
     let w = v .grid .columns in
     let y = row-small (v .grid) w s (k .sound) refl (omega (arith, k .on)) in
-    let x = mod-below s w (omega (arith, k .sound .column-least)) in
-    ( high ESC (omega arith) (omega arith)
-    , ( low VT (omega arith) (omega arith)
-    , ( high (s / w + SPACE) (omega arith) (omega arith)
-    , ( high (s % w + SPACE) (omega arith) (omega (arith, k .sound .column-most))
-    , ( low SI (omega arith) (omega arith), tt ) ) ) ) )
+    let x = mod-below s w (omega (arith, k .sound .column-least)) in (
+      high ESC (omega arith) (omega arith),
+      (
+        low VT (omega arith) (omega arith),
+        (
+          high (s / w + SPACE) (omega arith) (omega arith),
+          (
+            high (s % w + SPACE) (omega arith) (omega (arith, k .sound .column-most)),
+            (low SI (omega arith) (omega arith), tt),
+          ),
+        ),
+      ),
+    )
 
 pub taken-plain : (k : Kind) (v : View) → On-screen v → All Plain (taken k v)
 taken-plain k v on =
