@@ -1,5 +1,5 @@
-// The screen in a frame with row and column numbers. Under a row a guide tells its cells apart, unless all are plain
-// open cells and the cursor is not there.
+// The screen in a frame with row and column numbers. Under a row a guide tells its cells apart, unless they are all
+// plain and alike and the cursor is not there: then the row stands between # where they are protected.
 use crate::cells::cell_at;
 use codes::FS;
 use codes::GS;
@@ -50,31 +50,40 @@ fn edge<W: Write>(out: &mut W, columns: usize) -> io::Result<()> {
     out.write_all(b"+\n")
 }
 
-// A row's characters; what does not print is a space, and the guide names it.
+// Whether all cells of a row have this mark in a guide.
+fn all_marked<S: Screen>(
+    screen: &S,
+    first: usize,
+    columns: usize,
+    cursor: usize,
+    mark: u8,
+) -> bool {
+    for column in 0..columns {
+        let place = first.saturating_add(column);
+        if guide_mark(cell_at(screen, place), place == cursor) != mark {
+            return false;
+        }
+    }
+    true
+}
+
+// A row's characters between two edges; what does not print is a space, and the guide names it.
 fn row<S: Screen, W: Write>(
     out: &mut W,
     screen: &S,
     number: usize,
     first: usize,
     columns: usize,
+    edge: u8,
 ) -> io::Result<()> {
-    write!(out, "{number:>2} |")?;
+    write!(out, "{number:>2} ")?;
+    out.write_all(&[edge])?;
     for column in 0..columns {
         let code = cell_at(screen, first.saturating_add(column)).0;
         let shown = if code < SPACE { SPACE } else { code };
         out.write_all(&[shown])?;
     }
-    out.write_all(b"|\n")
-}
-
-fn needs_guide<S: Screen>(screen: &S, first: usize, columns: usize, cursor: usize) -> bool {
-    for column in 0..columns {
-        let place = first.saturating_add(column);
-        if guide_mark(cell_at(screen, place), place == cursor) != b'-' {
-            return true;
-        }
-    }
-    false
+    out.write_all(&[edge, b'\n'])
 }
 
 fn guide<S: Screen, W: Write>(
@@ -99,8 +108,17 @@ pub fn framed<S: Screen, W: Write>(out: &mut W, screen: &S, cursor: usize) -> io
     edge(out, columns)?;
     for number in 0..screen.rows() {
         let first = number.saturating_mul(columns);
-        row(out, screen, number, first, columns)?;
-        if needs_guide(screen, first, columns, cursor) {
+        let caption = all_marked(screen, first, columns, cursor, b' ');
+        let open = all_marked(screen, first, columns, cursor, b'-');
+        row(
+            out,
+            screen,
+            number,
+            first,
+            columns,
+            if caption { b'#' } else { b'|' },
+        )?;
+        if !caption && !open {
             guide(out, screen, first, columns, cursor)?;
         }
     }
@@ -110,6 +128,6 @@ pub fn framed<S: Screen, W: Write>(out: &mut W, screen: &S, cursor: usize) -> io
 // What the marks of a guide mean.
 pub fn legend<W: Write>(out: &mut W) -> io::Result<()> {
     out.write_all(
-        b"guide: - open, T tab stop, R start of entry, S other separator, ^ cursor, blank protected; a row without one is open\n",
+        b"guide: - open, T tab stop, R start of entry, S other separator, ^ cursor, blank protected;\n       without a guide a row is protected between #, open between |\n",
     )
 }

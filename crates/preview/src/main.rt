@@ -53,7 +53,10 @@ fn show(rt: &LibcRuntime, file: String, named: Option<String>) -> Result<(), ()>
     };
     let text = match fs::read(rt, file.as_str()) {
         Ok(text) => text,
-        Err(e) => return complain(rt, e),
+        Err(e) => {
+            let _ = eprintln!(rt, "preview: {file}: {e}");
+            return Err(());
+        }
     };
     let mut out = BufWriter::new(rt.stdout());
     let result = preview(&mut out, size, text.as_slice());
