@@ -7,12 +7,6 @@ ghost use Rattle.window.specs.Part.{corner, windowed};
 use screen::interface::Screen;
 use screen::refusal::Refusal;
 
-pub(crate) fn smaller(a: usize, b: usize) -> usize
-    ensures { λ r. ⌜ r ≡ min a b ⌝ }
-{
-    if a < b { a } else { b }
-}
-
 // The place below of a place of the window of this size.
 pub(crate) fn place_below<S: Screen>(
     below: &S,
@@ -24,8 +18,8 @@ pub(crate) fn place_below<S: Screen>(
     requires some { ⌜ 1 ≤ columns ⌝ }
     ensures { λ r. ⌜ r ≡ on-screen (has-place (windowed rows columns (grid (now (below .entry)))) place) (corner (grid (now (below .entry)) .columns) (min columns (grid (now (below .entry)) .columns)) place) ⌝ }
 {
-    let height = smaller(rows, below.rows());
-    let width = smaller(columns, below.columns());
+    let height = rows.min(below.rows());
+    let width = columns.min(below.columns());
     if place >= height * width {
         return Err(Refusal::OffScreen);
     }

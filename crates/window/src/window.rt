@@ -5,7 +5,6 @@ ghost use Prim.Native.Nat.{ℕ, _≤_};
 ghost use Rattle.screen.specs.Grid.{Grid};
 ghost use Rattle.window.specs.Part.{windowed, windowed-sound, outside};
 use crate::below::place_below;
-use crate::below::smaller;
 use crate::extent::Extent;
 use screen::interface::Screen;
 use screen::refusal::Refusal;
@@ -55,11 +54,11 @@ pub impl<'s, S: Screen> Screen for Window<'s, S> as WindowScreen {
     ghost sound = { λ t. windowed-sound (t .rows) (t .columns) (S·Screen .grid (now (t .below))) (record { row-least = t .rowLeast; row-most = t .rowMost; column-least = t .columnLeast; column-most = t .columnMost }) (S·Screen .sound (now (t .below))) };
 
     fn rows(&self) -> usize {
-        smaller(self.rows, self.below.rows())
+        self.rows.min(self.below.rows())
     }
 
     fn columns(&self) -> usize {
-        smaller(self.columns, self.below.columns())
+        self.columns.min(self.below.columns())
     }
 
     fn read(&self, place: usize) -> Result<(u8, bool), Refusal> {
