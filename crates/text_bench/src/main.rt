@@ -44,7 +44,8 @@ fn cell_sum<S: Screen>(screen: &S) -> u64 {
     let mut sum = 0u64;
     for place in 0..1920 {
         let (code, protected) = cell_at(screen, place);
-        sum = sum.wrapping_mul(31).wrapping_add(code as u64 + u64::from(protected));
+        sum = sum.wrapping_mul(31)
+            .wrapping_add(code as u64 + u64::from(protected));
     }
     sum
 }

@@ -34,7 +34,10 @@ fn show_cells<S: Screen>(rt: &LibcRuntime, screen: &S) -> io::Result<()> {
 
 fn show_state(rt: &LibcRuntime, state: &State, taken: bool) -> io::Result<()> {
     let (cursor, locked, light) = (state.cursor, state.locked, state.light);
-    print!(rt, "cursor {cursor} lock {locked} light {light} taken {taken} held")?;
+    print!(
+        rt,
+        "cursor {cursor} lock {locked} light {light} taken {taken} held"
+    )?;
     if state.is_held() {
         for code in state.text.text() {
             print!(rt, " {code:02X}")?;
@@ -46,7 +49,12 @@ fn show_state(rt: &LibcRuntime, state: &State, taken: bool) -> io::Result<()> {
 }
 
 // Carries out the texts of a line.
-fn run_texts<S: Screen>(rt: &LibcRuntime, heap: Global, screen: &mut S, line: &str) -> io::Result<()> {
+fn run_texts<S: Screen>(
+    rt: &LibcRuntime,
+    heap: Global,
+    screen: &mut S,
+    line: &str,
+) -> io::Result<()> {
     let mut state = State::new();
     let mut text = Vec::new(heap);
     for word in line.split_whitespace().skip(2) {
@@ -64,7 +72,13 @@ fn run_texts<S: Screen>(rt: &LibcRuntime, heap: Global, screen: &mut S, line: &s
 }
 
 // A store of that size, or else a window over a turned store of 24 rows of 80.
-fn run_line(rt: &LibcRuntime, heap: Global, line: &str, rows: usize, columns: usize) -> io::Result<Result<(), Refusal>> {
+fn run_line(
+    rt: &LibcRuntime,
+    heap: Global,
+    line: &str,
+    rows: usize,
+    columns: usize,
+) -> io::Result<Result<(), Refusal>> {
     if let Ok(size) = Size::new(rows, columns) {
         let mut store = MapStore::new(size);
         run_texts(rt, heap, &mut store, line)?;

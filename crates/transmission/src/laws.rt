@@ -4,5 +4,4 @@ ghost use Rattle.transmission.specs.Laws.{Texts-are-plain};
 // It does nothing: its contract says that the law holds.
 pub fn laws_hold()
     ensures { λ _. ⌜ Texts-are-plain ⌝ }
-{
-}
+{}
