@@ -1,8 +1,8 @@
 -- Keys leave every protected cell as it was, and make none.
-use Prim.Native.Nat.{ℕ, zero, suc, _+_, _-_, _%_, _<_, _≤_}
+use Prim.Native.Nat.{ℕ, zero, suc, _+_, _-_, _≤_}
 use mathlib.Core.Path.{_≡_, refl, sym, ap, subst, _∙_}
 use mathlib.Core.List.{List, [], _∷_, _++_, map}
-use mathlib.Core.Bool.{Bool, true, false, cond, not}
+use mathlib.Core.Bool.{true, false}
 use mathlib.Core.Logic.{⊎-elim}
 use native.Mathlib.Omega.{arith}
 use native.Mathlib.Nat.{not-suc-le-zero}
@@ -11,11 +11,11 @@ use lib.Dec.{ltb}
 use lib.ListN.{length, getD, set, take, drop, replicate}
 use Rattle.std.specs.declared.option.Option.the-variants.{Some, None}
 use Rattle.std.specs.shelf.Lists.{All, leading}
-use Rattle.std.proofs.shelf.Tests.{cond-true, cond-false, cond-both, both-ways, not-true, cases-bool, cases-lt, false≢true}
-use Rattle.std.proofs.shelf.Lists.{map-append, map-set, getD-map, set-getD, take-append-drop, drop-drop, set-past, getD-past, getD-drop, take-take, length-take}
+use Rattle.std.proofs.shelf.Tests.{cond-false, cond-both, not-true, cases-lt, false≢true}
+use Rattle.std.proofs.shelf.Lists.{map-append, map-set, getD-map, set-getD, take-append-drop, drop-drop, set-past, getD-drop, take-take, length-take}
 use Rattle.std.proofs.shelf.Sums.{leading-le-length}
 use Rattle.screen.specs.Cells.{Cell, cell, blank}
-use Rattle.screen.specs.Grid.{Grid, writable, written}
+use Rattle.screen.specs.Grid.{Grid, writable}
 use Rattle.edit.specs.declared.edits.Reach.{Reach}
 use Rattle.edit.specs.declared.edits.Change.the-variants.{InsertRow, RemoveRow, EraseAll, EraseOpen, Erase, Delete, Insert}
 use Rattle.edit.specs.declared.edits.Edit.{Edit}

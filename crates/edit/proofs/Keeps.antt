@@ -1,20 +1,19 @@
 -- Edits and writing leave a screen with the cursor on it.
-use Prim.Native.Nat.{ℕ, zero, suc, _+_, _-_, _*_, _/_, _%_, _<_, _≤_, min}
+use Prim.Native.Nat.{ℕ, zero, suc, _+_, _-_, _*_, _/_, _%_, _<_, _≤_}
 use mathlib.Core.Path.{_≡_, refl, sym, ap, _∙_}
-use mathlib.Core.List.{List, [], _∷_, _++_, map}
+use mathlib.Core.List.{List, [], _∷_, _++_}
 use mathlib.Core.Bool.{Bool, true, false, cond, _&&_}
 use native.Mathlib.Omega.{arith}
-use native.Mathlib.Nat.{mul-le-mul-right}
 use lib.Dec.{ltb}
-use lib.ListN.{length, getD, set, take, drop, replicate}
+use lib.ListN.{length, set, take, drop, replicate}
 use Rattle.std.specs.shelf.Lists.{All}
 use Rattle.std.proofs.shelf.Tests.{cond-both, and-parts, ltb-true}
-use Rattle.std.proofs.shelf.Lists.{length-append, length-take, length-drop, length-replicate, length-set, length-map}
+use Rattle.std.proofs.shelf.Lists.{length-append, length-take, length-drop, length-replicate, length-set}
 use Rattle.std.proofs.shelf.Elements.{all-getD, all-from-getD, all-append, all-take, all-drop, all-set, all-push, all-map, all-weaker}
-use Rattle.std.proofs.shelf.Bits.{div-below, mod-below}
+use Rattle.std.proofs.shelf.Bits.{mod-below}
 use Rattle.screen.specs.Cells.{Cell, cell, blank, storable}
 use Rattle.screen.specs.Rows.{insert-row, remove-row}
-use Rattle.screen.specs.Grid.{Grid, Sound, with-cells, has-row, writable, written, inserted, removed}
+use Rattle.screen.specs.Grid.{Grid, Sound, with-cells, has-row, writable, written}
 use Rattle.screen.proofs.Cells.{space-storable}
 use Rattle.screen.proofs.Rows.{rows-apart}
 use Rattle.edit.specs.declared.edits.Motion.{Motion}

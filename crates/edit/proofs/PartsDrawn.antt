@@ -1,25 +1,22 @@
 -- Changes of some cells, under way and done.
-use Prim.Native.Nat.{ℕ, zero, suc, _+_, _-_, _%_, _≤_, _<_, min}
+use Prim.Native.Nat.{ℕ, suc, _+_, _-_, _≤_, _<_}
 use mathlib.Core.Path.{_≡_, refl, sym, ap, _∙_}
-use mathlib.Core.List.{List, [], _∷_, _++_, map}
-use mathlib.Core.Bool.{Bool, true, false, cond, not}
+use mathlib.Core.List.{List, [], _∷_, _++_}
+use mathlib.Core.Bool.{Bool, true, false}
 use mathlib.Core.Logic.{⊎-elim}
 use native.Mathlib.Omega.{arith}
 use borrow.Author.Needs.{needs}
-use lib.Dec.{ltb, eqb}
-use lib.ListN.{length, getD, set, take, drop, replicate}
+use lib.ListN.{length, getD, set, take, drop}
 use lib.Seq.{paste}
-use native.Mathlib.Numerals.{add-one}
-use Rattle.std.specs.shelf.Lists.{leading}
-use Rattle.std.proofs.shelf.Tests.{and-from, cond-true, cond-false, cases-lt, cases-eq, lt-ltb}
-use Rattle.std.proofs.shelf.Lists.{places, length-take, length-drop, length-map, length-replicate, length-append, length-take-le, getD-map, getD-replicate, getD-take, getD-drop, getD-append-left, getD-push, set-getD}
+use Rattle.std.proofs.shelf.Tests.{and-from, cond-true, cond-false, lt-ltb}
+use Rattle.std.proofs.shelf.Lists.{places, length-drop, length-map, length-replicate, length-append, length-take-le, getD-map, getD-replicate, getD-take, getD-drop, getD-append-left, getD-push, set-getD}
 use Rattle.std.proofs.shelf.Edits.{paste-none, paste-more, paste-all, length-paste}
 use Rattle.codes.specs.Ascii.{SPACE}
 use Rattle.screen.specs.Cells.{Cell, cell, blank, storable}
 use Rattle.screen.specs.Grid.{Grid, with-cells, writable, written}
 use Rattle.screen.proofs.Cells.{space-storable}
 use Rattle.edit.specs.View.{size}
-use Rattle.edit.specs.Parts.{changed, redraw, erased, emptied, open-erased, deleted, pushed}
+use Rattle.edit.specs.Parts.{redraw, erased, emptied, open-erased, deleted, pushed}
 
 -- the cells of a part
 abbrev pub part : Grid → ℕ → ℕ → List Cell

@@ -10,7 +10,7 @@ use codes::SPACE;
 use screen::interface::Screen;
 use screen::refusal::Refusal;
 
-// The number of cells of a screen with so many rows and columns.
+// The number of cells of a screen with so many rows and columns; only the contract speaks of the screen.
 fn area<S: Screen>(screen: &S, rows: usize, columns: usize) -> usize
     requires { ⌜ rows ≡ grid (now screen) .rows ⌝ ∗ ⌜ columns ≡ grid (now screen) .columns ⌝ }
     ensures value { λ r. ⌜ r ≡ size (grid (now (screen .entry))) ⌝ }
@@ -21,6 +21,7 @@ fn area<S: Screen>(screen: &S, rows: usize, columns: usize) -> usize
     rows * columns
 }
 
+// How many cells a screen has.
 pub fn cell_count<S: Screen>(screen: &S) -> usize
     ensures value { λ r. ⌜ r ≡ size (grid (now (screen .entry))) ⌝ }
     ensures some { λ r. ⌜ 0 < r ⌝ }
@@ -38,7 +39,7 @@ pub fn on_screen<S: Screen>(screen: &S, cursor: usize) -> usize
     cursor % cell_count(screen)
 }
 
-// What a read at a place found; off the screen an open space.
+// What a read at a place found, or off the screen an open space; only the contract speaks of screen and place.
 fn found_at<S: Screen>(screen: &S, place: usize, answer: Result<(u8, bool), Refusal>) -> (u8, bool)
     requires { ⌜ answer ≡ read-at (grid (now screen)) place ⌝ }
     ensures value { λ r. ⌜ cell (r .0) (r .1) ≡ getD (grid (now (screen .entry)) .cells) place blank ⌝ }

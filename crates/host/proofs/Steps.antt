@@ -22,10 +22,13 @@ use Rattle.edit.specs.Writing.{typed, typed-run}
 use Rattle.edit.specs.Laws.{On-screen}
 use Rattle.edit.proofs.Sizes.{size-least}
 use Rattle.edit.proofs.Keeps.{edited-on, addressed-on, typed-on}
-use Rattle.host.specs.Drawing.{protects, edited-by, escape-drawn, control-drawn, drawn, drawn-all}
+use Rattle.host.specs.declared.effect.Effect.{Effect}
+use Rattle.host.specs.declared.effect.Effect.the-variants.{Nothing, Lock, Light, Transmit}
+use Rattle.host.specs.Laws.{is-transmission, steps-before, first-transmission}
+use Rattle.host.specs.Drawing.{effect, protects, edited-by, drawn, drawn-all}
 use Rattle.transmission.specs.Held.{text-of}
 use Rattle.host.specs.declared.state.State.{State}
-use Rattle.host.specs.Carrying.{or-else, is-some, held-of}
+use Rattle.host.specs.Carrying.{took, taking, or-else, is-some, held-of}
 
 -- the cursor stays on the screen
 pub at-on : (g : Grid) (p : ℕ) → Sound g → On-screen (at g p)
@@ -91,3 +94,15 @@ is-held s = held-by (s .holds)
 -- a place going round goes round no further
 pub at-again : (g : Grid) (p : ℕ) → at g (p % size g) ≡ at g p
 at-again g p = ap (view g) (mod-mod p (size g))
+
+-- a text's transmission, by its first step: before it the steps go on, with it the text is taken
+taken-by : (m : Bool) (s : Step) (ss : List Step) (v : View) (rest : Option (List ℕ)) → rest ≡ took (first-transmission ss) (drawn-all (protects m s) (steps-before ss) (drawn m s v))
+    → (e : Effect) → or-else (took e v) rest ≡ took (cond (is-transmission e) e (first-transmission ss)) (drawn-all m (cond (is-transmission e) [] (s ∷ steps-before ss)) v)
+taken-by m s ss v rest h Nothing = h
+taken-by m s ss v rest h Lock = h
+taken-by m s ss v rest h Light = h
+taken-by m s ss v rest h (Transmit k) = refl
+
+pub taken-before : (m : Bool) (ss : List Step) (v : View) → taking m ss v ≡ took (first-transmission ss) (drawn-all m (steps-before ss) v)
+taken-before m [] v = refl
+taken-before m (s ∷ ss) v = taken-by m s ss v (taking (protects m s) ss (drawn m s v)) (taken-before (protects m s) ss (drawn m s v)) (effect s)

@@ -1,15 +1,15 @@
 -- The pieces of a text: what each takes, and how the list of steps goes on.
 use Prim.Native.Nat.{ℕ, zero, suc, _+_, _-_, _≤_, _<_, min}
-use mathlib.Core.Path.{_≡_, refl, sym, ap, _∙_, subst}
-use mathlib.Core.List.{List, [], _∷_, _++_}
+use mathlib.Core.Path.{_≡_, refl, sym, ap, _∙_}
+use mathlib.Core.List.{List, [], _∷_}
 use mathlib.Core.Bool.{Bool, true, false, cond, _&&_}
-use mathlib.Core.Logic.{_⊎_, inl, inr, ⊎-elim}
+use mathlib.Core.Logic.{_⊎_, ⊎-elim}
 use native.Mathlib.Omega.{arith}
 use Rattle.std.proofs.shelf.Ways.{tells}
-use lib.Dec.{leb, ltb, eqb}
+use lib.Dec.{leb, eqb}
 use lib.ListN.{length, getD, take, drop}
 use Rattle.std.specs.shelf.Lists.{leading}
-use Rattle.std.proofs.shelf.Tests.{cases-bool, cases-lt, cond-true, cond-false, cond-both, both-ways, and-from, and-parts, le-leb, leb-true, eq-eqb, eqb-true, ne-eqb}
+use Rattle.std.proofs.shelf.Tests.{cases-bool, cases-lt, cond-true, cond-false, cond-both, and-from, and-parts, le-leb, leb-true, eq-eqb, eqb-true, ne-eqb}
 use Rattle.std.proofs.shelf.Sums.{leading-le-length}
 use Rattle.std.proofs.shelf.Lists.{at-drop-more, at-drop-all, drop-drop, drop-more, getD-past}
 use native.Mathlib.Nat.{add-assoc, add-zero}
@@ -17,7 +17,7 @@ use Rattle.codes.specs.Ascii.{VT, SI, ESC, SPACE}
 use Rattle.codes.specs.Classes.{class-of, is-fill, is-framing, is-data}
 use Rattle.codes.specs.declared.class.Class.{Class}
 use Rattle.codes.specs.declared.class.Class.the-variants.{Fill, Framing, Data, Control}
-use Rattle.text.specs.Steps.{Step, run, address, escape, control, broken, Piece, address-at, escape-at, first, steps, piece-at}
+use Rattle.text.specs.Steps.{run, address, escape, control, broken, Piece, address-at, escape-at, first, steps, piece-at}
 
 pub data-low : (c : ℕ) → is-data c ≡ true → SPACE ≤ c
 data-low c e = leb-true 32 c (and-parts (leb 32 c) (leb c 126) e .0)

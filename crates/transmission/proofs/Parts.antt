@@ -1,17 +1,17 @@
 -- A text taken up, part by part.
 use Prim.Native.Nat.{ℕ, zero, suc, _+_, _-_, _*_, _/_, _%_, _≤_, _<_}
-use mathlib.Core.Path.{_≡_, refl, sym, ap, _∙_, subst}
-use mathlib.Core.List.{List, [], _∷_, _++_, reverse}
-use mathlib.Core.Bool.{Bool, true, false, cond, not, _&&_, _||_}
+use mathlib.Core.Path.{_≡_, refl, sym, ap, _∙_}
+use mathlib.Core.List.{List, [], _∷_, _++_}
+use mathlib.Core.Bool.{Bool, true, false, cond}
 use mathlib.Core.Logic.{⊎-elim}
 use native.Mathlib.Omega.{arith}
-use native.Mathlib.Nat.{mul-le-mul-right, add-mul, one-mul, mul-div-cancel, div-mul-le-self, div-lt-iff-lt-mul, div-add-mod'}
+use native.Mathlib.Nat.{add-mul, one-mul, mul-div-cancel, div-mul-le-self, div-lt-iff-lt-mul, div-add-mod'}
 use lib.Dec.{eqb}
 use lib.ListN.{length, getD, take, drop}
 use Rattle.std.specs.shelf.Lists.{folded, kept-by, leading, ending, between}
-use Rattle.std.proofs.shelf.Tests.{and-from, cases-lt, cond-true, cond-false, eq-eqb, ne-eqb}
+use Rattle.std.proofs.shelf.Tests.{cases-lt, cond-true, cond-false, eq-eqb, ne-eqb}
 use Rattle.std.proofs.shelf.Lists.{take-append-drop, take-take, drop-take, drop-drop, take-at, append-assoc, append-nil, length-append, reverse-append}
-use Rattle.std.proofs.shelf.Edits.{between-none, between-more}
+use Rattle.std.proofs.shelf.Edits.{between-more}
 use Rattle.std.proofs.shelf.Elements.{kept-by-append}
 use Rattle.std.proofs.shelf.Bits.{div-below, mod-below}
 use Rattle.screen.specs.Cells.{Cell, blank}
@@ -20,7 +20,7 @@ use Rattle.codes.specs.Ascii.{ESC, CR, RS}
 use Rattle.screen.specs.Grid.{Grid, Sound}
 use Rattle.edit.specs.View.{View, size}
 use Rattle.transmission.specs.declared.kind.Kind.{Kind}
-use Rattle.transmission.specs.Text.{start-at, is-sent, is-open-space, Sent, turn, is-escaped, spelled, says, sends, trimmed, returned, row-sends, rows-sent, stretch}
+use Rattle.transmission.specs.Text.{start-at, is-sent, is-open-space, Sent, is-escaped, spelled, says, sends, trimmed, returned, row-sends, rows-sent, stretch}
 use Rattle.transmission.proofs.Trimming.{Trimming}
 
 -- one cell of a part
@@ -34,9 +34,6 @@ pub sends-no : (kind : Kind) (cs : List Cell) (k to : ℕ) (o : Sent) → k < to
 sends-no kind cs k to o h l e =
     ap (λ x. sends kind x o) (part-more cs k to h l) ∙ ap (folded (says kind) o) (cond-false (is-sent kind (getD cs k blank)) _ _ e)
 
-pub sends-none : (kind : Kind) (cs : List Cell) (k to : ℕ) (o : Sent) → k ≡ to → sends kind (between k to cs) o ≡ o
-sends-none kind cs k to o e = ap (λ j. sends kind (between j to cs) o) e ∙ ap (λ x. sends kind x o) (between-none cs to)
-
 -- the end of a list
 ending-push : (p : Cell → Bool) (xs : List Cell) (c : Cell) → ending p (xs ++ (c ∷ [])) ≡ cond (p c) (1 + ending p xs) 0
 ending-push p xs c = ap (leading p) (reverse-append xs (c ∷ []))
@@ -44,9 +41,6 @@ ending-push p xs c = ap (leading p) (reverse-append xs (c ∷ []))
 kept-push : (kind : Kind) (cs : List Cell) (from i : ℕ) → from ≤ i → i < length cs
     → kept-by (is-sent kind) (between from (i + 1) cs) ≡ kept-by (is-sent kind) (between from i cs) ++ kept-by (is-sent kind) (getD cs i blank ∷ [])
 kept-push kind cs from i h l = ap (kept-by (is-sent kind)) (between-more cs from i blank h l) ∙ kept-by-append (is-sent kind) (between from i cs) (getD cs i blank ∷ [])
-
-pub trimming-none : (kind : Kind) (cs : List Cell) (from to : ℕ) → from ≤ to → Trimming kind cs from to to 0
-trimming-none kind cs from to h = record { low = h; room = omega arith; behind = ap (λ x. length (kept-by (is-sent kind) x)) (between-none cs to); same = omega arith }
 
 -- one cell back: not sent, or an open space
 pub trimming-no : (kind : Kind) (cs : List Cell) (from i to left : ℕ) → from ≤ i → i < to → i < length cs → is-sent kind (getD cs i blank) ≡ false
@@ -76,9 +70,6 @@ ending-stop kind cs from i h f e s =
     ap (ending is-open-space) (kept-push kind cs from i h f ∙ ap (λ x. kept-by (is-sent kind) (between from i cs) ++ x) (cond-true (is-sent kind c) (c ∷ []) [] e))
     ∙ ending-push is-open-space (kept-by (is-sent kind) (between from i cs)) c ∙ cond-false (is-open-space c) (1 + ending is-open-space (kept-by (is-sent kind) (between from i cs))) 0 s
 
-pub ending-front : (kind : Kind) (cs : List Cell) (from : ℕ) → ending is-open-space (kept-by (is-sent kind) (between from from cs)) ≡ 0
-ending-front kind cs from = ap (λ x. ending is-open-space (kept-by (is-sent kind) x)) (between-none cs from)
-
 split-part : (cs : List Cell) (from stop to : ℕ) → from ≤ stop → stop ≤ to → between from to cs ≡ between from stop cs ++ between stop to cs
 split-part cs from stop to h l =
     let m : ℕ = stop - from in
@@ -99,9 +90,6 @@ trimmed-whole kind cs from stop to left l t z =
     let n : left ≡ ending is-open-space k = omega (arith, t .same) in
     let m : length a ≡ length k - ending is-open-space k = omega (arith, ap length whole, length-append a b, t .behind) in
     (n, sym (take-at a b (length k - ending is-open-space k) m) ∙ ap (take (length k - ending is-open-space k)) (sym whole))
-
-pub returned-none : (n : ℕ) (o : Sent) → n ≡ 0 → returned n o ≡ o
-returned-none n o e = ap (λ k. returned k o) e
 
 pub returned-some : (n : ℕ) (o : Sent) → 0 < n → returned n o ≡ record { characters = o .characters ++ (CR ∷ []); last = o .last }
 returned-some zero o h = absurd (omega arith)

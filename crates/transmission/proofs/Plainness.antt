@@ -1,11 +1,11 @@
 -- The characters of a transmission's text.
 use Prim.Native.Nat.{ℕ, zero, suc, _+_, _-_, _*_, _/_, _%_, _<_, _≤_}
-use mathlib.Core.Path.{_≡_, refl, sym, ap, _∙_}
+use mathlib.Core.Path.{_≡_, refl}
 use mathlib.Core.List.{List, [], _∷_, _++_}
-use mathlib.Core.Bool.{Bool, true, false, cond}
+use mathlib.Core.Bool.{Bool, true, false}
 use native.Mathlib.Omega.{arith}
 use lib.Dec.{eqb}
-use lib.ListN.{length, getD, take, drop}
+use lib.ListN.{length, getD, drop}
 use Rattle.std.specs.shelf.Lists.{All, folded, kept-by, ending, between}
 use Rattle.std.proofs.shelf.Tests.{cond-both}
 use Rattle.std.proofs.shelf.Elements.{all-append, all-push, all-take, all-drop, all-kept-by, all-from-getD}
@@ -13,7 +13,7 @@ use Rattle.std.proofs.shelf.Bits.{mod-below}
 use Rattle.codes.specs.Ascii.{VT, CR, SO, SI, ESC, RS, SPACE}
 use Rattle.screen.specs.Cells.{Cell, blank, storable}
 use Rattle.screen.proofs.Cells.{storable-seven, storable-text}
-use Rattle.edit.specs.View.{View, size}
+use Rattle.edit.specs.View.{View}
 use Rattle.edit.specs.Laws.{On-screen}
 use Rattle.transmission.specs.declared.kind.Kind.{Kind}
 use Rattle.transmission.specs.Text.{start-at, is-sent, is-open-space, Sent, turn, is-escaped, spelled, says, sends, trimmed, returned, row-sends, rows-sent, stretch, opening, taken}

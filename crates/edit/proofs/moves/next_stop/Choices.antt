@@ -1,9 +1,7 @@
-use Prim.Native.Nat.{_+_, _-_}
+use Prim.Native.Nat.{_-_}
 use mathlib.Core.Path.{_≡_}
-use lib.ListN.{drop}
-use Rattle.std.specs.shelf.Lists.{leading}
 use Rattle.edit.specs.View.{view}
-use Rattle.edit.specs.Moves.{no-stop, stop-from}
+use Rattle.edit.specs.Moves.{stop-from}
 use Rattle.edit.proofs.moves.next_stop.Given as given
 
 abbrev pub Inv-loop-at : given.InvT-loop-at

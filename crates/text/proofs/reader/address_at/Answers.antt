@@ -1,14 +1,12 @@
 use native.Mathlib.Omega.{arith}
 use native.Mathlib.Nat.{add-zero}
-use Prim.Native.Nat.{ℕ, _+_, _-_, _≤_, _<_, min}
+use Prim.Native.Nat.{_+_, _-_, _≤_}
 use mathlib.Core.Path.{_≡_, sym, ap, _∙_}
-use mathlib.Core.Bool.{true}
-use lib.ListN.{length, getD, drop}
+use lib.ListN.{getD, drop}
 use Rattle.std.specs.shelf.Lists.{leading}
 use Rattle.std.proofs.shelf.Lists.{getD-drop, getD-past}
-use Rattle.std.proofs.shelf.Tests.{and-parts, leb-true}
 use Rattle.codes.specs.Classes.{is-data}
-use Rattle.text.specs.Steps.{address, address-at}
+use Rattle.text.specs.Steps.{address}
 use Rattle.text.proofs.Pieces.{data-low, leading-at, address-good, address-broken}
 use Rattle.text.proofs.reader.address_at.Needs as need
 use Rattle.text.proofs.reader.address_at.Needs.{else-data-ge2·by·then-data-ge2·then-at-text·else-text-at-eq-SI, else-data-ge2·by·then-data-ge2·else-at-text, else-data-ge2·by·else-data-ge2}

@@ -1,5 +1,5 @@
 use native.Mathlib.Omega.{arith}
-use mathlib.Core.Path.{_≡_, sym, _∙_}
+use mathlib.Core.Path.{sym}
 use Rattle.codes.specs.Classes.{is-data}
 use Rattle.std.proofs.shelf.Sums.{leading-drop-yes, leading-drop-no, leading-drop-all}
 use Rattle.text.proofs.reader.run_end.Needs as need

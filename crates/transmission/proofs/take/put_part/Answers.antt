@@ -1,11 +1,10 @@
 use native.Mathlib.Omega.{arith}
-use mathlib.Core.Path.{_≡_, refl, sym, ap, _∙_}
-use mathlib.Core.Bool.{true, false}
-use Prim.Native.Nat.{ℕ, _+_, _<_}
+use mathlib.Core.Path.{_≡_, sym, ap, _∙_}
+use Prim.Native.Nat.{_+_, _<_}
 use lib.ListN.{length, getD}
 use Rattle.std.specs.shelf.Lists.{between}
 use Rattle.screen.specs.Cells.{blank}
-use Rattle.transmission.specs.Text.{is-sent, sends, says, Sent}
+use Rattle.transmission.specs.Text.{is-sent, sends, says}
 use Rattle.transmission.specs.Held.{sent-of}
 use Rattle.transmission.proofs.Parts.{sends-yes, sends-no}
 use Rattle.transmission.proofs.take.put_part.Needs as need

@@ -1,5 +1,5 @@
 use native.Mathlib.Omega.{arith}
-use mathlib.Core.Path.{_≡_, refl, sym, ap, _∙_}
+use mathlib.Core.Path.{sym, ap, _∙_}
 use Rattle.transmission.proofs.Parts.{start-at-back, start-at-here}
 use Rattle.transmission.proofs.take.start_at.Needs as need
 

@@ -1,10 +1,7 @@
 use native.Mathlib.Omega.{arith}
-use mathlib.Core.Path.{_≡_, refl, sym, ap, _∙_, subst}
-use mathlib.Core.Bool.{true, false}
-use Prim.Native.Nat.{ℕ, _+_, _-_, _<_, _≤_}
-use lib.ListN.{length, getD}
+use mathlib.Core.Path.{_≡_, sym, ap, _∙_, subst}
+use Prim.Native.Nat.{ℕ, _+_, _-_}
 use Rattle.std.specs.shelf.Lists.{between, ending, kept-by}
-use Rattle.screen.specs.Cells.{blank}
 use Rattle.transmission.specs.Text.{is-sent, is-open-space}
 use Rattle.transmission.proofs.Trimming.{Trimming}
 use Rattle.transmission.proofs.Parts.{trimming-no, trimming-yes, trimmed-whole, ending-stop}

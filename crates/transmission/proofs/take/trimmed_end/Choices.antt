@@ -1,4 +1,4 @@
-use Prim.Native.Nat.{ℕ, _+_, _-_, _*_, _≤_}
+use Prim.Native.Nat.{_-_}
 use Rattle.transmission.proofs.Trimming.{Trimming}
 use Rattle.transmission.proofs.take.trimmed_end.Given as given
 
