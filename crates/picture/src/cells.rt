@@ -1,16 +1,7 @@
-// Reading cells that are known to be on the screen.
-use codes::SPACE;
+// Cells that can be printed row by row.
+use edit::cell::cell_at;
 use screen::interface::Screen;
 
-// The character of a cell and its protection mark; off the screen, an open space.
-pub fn cell_at<S: Screen>(screen: &S, place: usize) -> (u8, bool) {
-    match screen.read(place) {
-        Ok(cell) => cell,
-        Err(_) => (SPACE, false),
-    }
-}
-
-// Cells that can be printed row by row.
 pub trait Cells {
     fn height(&self) -> usize;
 

@@ -1,6 +1,6 @@
 // The fields of a form: the runs of open cells between protected ones, in reading order.
-use crate::cells::cell_at;
 use codes::SPACE;
+use edit::cell::cell_at;
 use screen::interface::Screen;
 use std::io;
 use std::io::Write;
