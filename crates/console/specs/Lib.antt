@@ -1,0 +1,4 @@
+pub mod Console
+pub mod Keys
+pub mod Messages
+pub mod Terminal
