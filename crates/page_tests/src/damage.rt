@@ -40,12 +40,7 @@ fn with_more(page: &[u8], place: usize, more: &[u8], out: &mut [u8]) -> usize {
 }
 
 // With groups put in behind any number, the page is refused with 17.
-fn longer_numbers<S: Screen>(
-    page: &[u8],
-    more: &[u8],
-    out: &mut [u8],
-    screen: &mut S,
-) -> bool {
+fn longer_numbers<S: Screen>(page: &[u8], more: &[u8], out: &mut [u8], screen: &mut S) -> bool {
     let mut refused = true;
     for (place, octet) in page.iter().enumerate() {
         if *octet < 0x80 {
@@ -88,7 +83,10 @@ pub fn every_damage<S: Screen>(screen: &mut S, seed: u32) -> Result<bool, Refusa
         return Ok(false);
     }
     let page = &area[0..length];
-    let left_over = matches!(read_page(&area[0..length + 1], screen), Err(Refusal::LeftOver));
+    let left_over = matches!(
+        read_page(&area[0..length + 1], screen),
+        Err(Refusal::LeftOver)
+    );
     let mut out = [0; 4000];
     let refused = cut(page, screen)
         && longer_numbers(page, &[0x00], &mut out, screen)

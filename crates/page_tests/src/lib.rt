@@ -1,6 +1,6 @@
 // Pages tried on screens of every size: random cells there and back, and pages damaged at every place.
 pub mod damage;
 pub mod random;
-pub mod trips;
 #[cfg(test)]
 mod tests;
+pub mod trips;

@@ -41,7 +41,11 @@ pub fn fill<S: Screen>(screen: &mut S, seed: u32) -> usize {
         let _ = screen.write(place, code, random.next() % 2 == 0);
     }
     let cursor = random.next() as usize % 1920;
-    if screen.read(cursor).is_ok() { cursor } else { 0 }
+    if screen.read(cursor).is_ok() {
+        cursor
+    } else {
+        0
+    }
 }
 
 // Makes every cell an open space.

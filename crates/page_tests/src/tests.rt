@@ -55,7 +55,10 @@ fn headers() -> Result<(), Fail> {
     let mut page = [0; 964];
     check_eq(write_page(&store, 960, &mut page), Err(Refusal::OffScreen))?;
     check_eq(write_page(&store, 0, &mut page), Ok(964))?;
-    check_eq([page[0], page[1], page[2], page[3]], [0x01, 0x0c, 0x50, 0x00])?;
+    check_eq(
+        [page[0], page[1], page[2], page[3]],
+        [0x01, 0x0c, 0x50, 0x00],
+    )?;
     page[0] = 0x02;
     check_eq(read_page(&page, &mut store), Err(Refusal::WrongNumber))?;
     page[0] = 0x01;

@@ -41,7 +41,12 @@ pub impl From<Refused> for Fault as FaultFromRefused {
 
 // The station's addresses, an acknowledgement or nothing, and a text: the area then begins with that reply, and is as it
 // was behind it.
-pub fn compose<L: Line>(line: &L, area: &mut [u8], acknowledgement: &[u8], text: &[u8]) -> Result<usize, Fault>
+pub fn compose<L: Line>(
+    line: &L,
+    area: &mut [u8],
+    acknowledgement: &[u8],
+    text: &[u8],
+) -> Result<usize, Fault>
     ensures { λ r. ⌜ made r (λ n. Shows (L·Line .kind) (now (area .entry)) SOH-first (characters (now (acknowledgement .entry)) (now (text .entry))) (closed n) (now (area .exit))) ⌝ }
 {
     let reply = Begun::new(line, area)?;

@@ -55,7 +55,10 @@ fn areas_of_every_length() -> Result<(), Fail> {
     let line = SyncLine::new();
     for end in 0..12 {
         let mut area = [0xaa; 12];
-        check_eq(compose(&line, &mut area[0..end], &[], b"A"), Err(Fault::ShortArea))?;
+        check_eq(
+            compose(&line, &mut area[0..end], &[], b"A"),
+            Err(Fault::ShortArea),
+        )?;
     }
     let mut area = [0xaa; 13];
     check_eq(compose(&line, &mut area[0..12], &[], b"A"), Ok(12))?;
