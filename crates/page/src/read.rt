@@ -42,8 +42,8 @@ fn check<'a>(octets: &'a [u8]) -> Result<Checked<'a>, Refusal>
 
 // Writes the next cell from a reader to a place of the screen.
 fn draw_cell<S: Screen>(cells: &mut Reader, place: usize, screen: &mut S)
-    ensures rest { λ _. ⌜ S·Screen .rest (now (screen .exit)) ≡ S·Screen .rest (now (screen .entry)) ⌝ }
-    ensures cell { λ _. ⌜ ((c : Cell) (os : List ℕ) → cell-in (rest-of (now (cells .entry))) ≡ Ok (read c os) → (rest-of (now (cells .exit)) ≡ os) × (S·Screen .grid (now (screen .exit)) ≡ written (S·Screen .grid (now (screen .entry))) place (c .code) (c .protected))) ⌝ }
+    ensures rest { λ _. ⌜ rest (now (screen .exit)) ≡ rest (now (screen .entry)) ⌝ }
+    ensures cell { λ _. ⌜ ((c : Cell) (os : List ℕ) → cell-in (rest-of (now (cells .entry))) ≡ Ok (read c os) → (rest-of (now (cells .exit)) ≡ os) × (grid (now (screen .exit)) ≡ written (grid (now (screen .entry))) place (c .code) (c .protected))) ⌝ }
 {
     if let Ok((code, mark)) = cells.cell() {
         let _ = screen.write(place, code, mark);
@@ -52,8 +52,8 @@ fn draw_cell<S: Screen>(cells: &mut Reader, place: usize, screen: &mut S)
 
 // Writes so many cells from a reader to the screen, from its first place on.
 fn draw<S: Screen>(mut cells: Reader, count: usize, screen: &mut S)
-    ensures rest { λ _. ⌜ S·Screen .rest (now (screen .exit)) ≡ S·Screen .rest (now (screen .entry)) ⌝ }
-    ensures grid { λ _. ⌜ ((cs : List Cell) → cells-in count (rest-of (cells .entry)) ≡ Ok (read cs []) → count ≡ length (S·Screen .grid (now (screen .entry)) .cells) → S·Screen .grid (now (screen .exit)) ≡ with-cells (S·Screen .grid (now (screen .entry))) cs) ⌝ }
+    ensures rest { λ _. ⌜ rest (now (screen .exit)) ≡ rest (now (screen .entry)) ⌝ }
+    ensures grid { λ _. ⌜ ((cs : List Cell) → cells-in count (rest-of (cells .entry)) ≡ Ok (read cs []) → count ≡ length (grid (now (screen .entry)) .cells) → grid (now (screen .exit)) ≡ with-cells (grid (now (screen .entry))) cs) ⌝ }
 {
     for place in 0..count {
         draw_cell(&mut cells, place, screen);
@@ -62,16 +62,16 @@ fn draw<S: Screen>(mut cells: Reader, count: usize, screen: &mut S)
 
 // Whether the screen has this size.
 fn has_size<S: Screen>(screen: &S, rows: usize, columns: usize) -> bool
-    ensures { λ r. ⌜ r ≡ eqb rows (S·Screen .grid (now (screen .entry)) .rows) && eqb columns (S·Screen .grid (now (screen .entry)) .columns) ⌝ }
+    ensures { λ r. ⌜ r ≡ eqb rows (grid (now (screen .entry)) .rows) && eqb columns (grid (now (screen .entry)) .columns) ⌝ }
 {
     rows == screen.rows() && columns == screen.columns()
 }
 
 // Writes the cells of a page to a screen of its size, and answers the cursor place.
 fn show<S: Screen>(page: Checked, screen: &mut S) -> usize
-    requires { ⌜ eqb (page .header .rows) (S·Screen .grid (now screen) .rows) && eqb (page .header .columns) (S·Screen .grid (now screen) .columns) ≡ true ⌝ }
-    ensures rest { λ _. ⌜ S·Screen .rest (now (screen .exit)) ≡ S·Screen .rest (now (screen .entry)) ⌝ }
-    ensures shown { λ r. ⌜ ((os : List ℕ) → Found os (page .entry) → Shown os (S·Screen .grid (now (screen .entry))) r (S·Screen .grid (now (screen .exit)))) ⌝ }
+    requires { ⌜ eqb (page .header .rows) (grid (now screen) .rows) && eqb (page .header .columns) (grid (now screen) .columns) ≡ true ⌝ }
+    ensures rest { λ _. ⌜ rest (now (screen .exit)) ≡ rest (now (screen .entry)) ⌝ }
+    ensures shown { λ r. ⌜ ((os : List ℕ) → Found os (page .entry) → Shown os (grid (now (screen .entry))) r (grid (now (screen .exit)))) ⌝ }
 {
     let count = screen.rows() * screen.columns();
     draw(page.cells, count, screen);
@@ -80,10 +80,10 @@ fn show<S: Screen>(page: Checked, screen: &mut S) -> usize
 
 // Reads a page onto a screen of its size, and answers the cursor place. A refusal changes no cell.
 pub fn read_page<S: Screen>(octets: &[u8], screen: &mut S) -> Result<usize, Refusal>
-    ensures rest { λ _. ⌜ S·Screen .rest (now (screen .exit)) ≡ S·Screen .rest (now (screen .entry)) ⌝ }
-    ensures grid { λ _. ⌜ S·Screen .grid (now (screen .exit)) ≡ reads (S·Screen .grid (now (screen .entry))) (now (octets .entry)) .grid ⌝ }
-    ensures answer { λ r. ⌜ r ≡ reads (S·Screen .grid (now (screen .entry))) (now (octets .entry)) .answer ⌝ }
-    ensures written_back { λ r. ⌜ made r (λ cursor. octets-at (S·Screen .grid (now (screen .exit))) cursor ≡ now (octets .entry)) ⌝ }
+    ensures rest { λ _. ⌜ rest (now (screen .exit)) ≡ rest (now (screen .entry)) ⌝ }
+    ensures grid { λ _. ⌜ grid (now (screen .exit)) ≡ reads (grid (now (screen .entry))) (now (octets .entry)) .grid ⌝ }
+    ensures answer { λ r. ⌜ r ≡ reads (grid (now (screen .entry))) (now (octets .entry)) .answer ⌝ }
+    ensures written_back { λ r. ⌜ made r (λ cursor. octets-at (grid (now (screen .exit))) cursor ≡ now (octets .entry)) ⌝ }
 {
     let page = check(octets)?;
     if !has_size(screen, page.header.rows, page.header.columns) {

@@ -18,8 +18,8 @@ use screen::interface::Screen;
 
 // The number at a place of the page: 1, rows, columns, cursor, and then those of the cells.
 fn page_number<S: Screen>(screen: &S, cursor: usize, place: usize) -> usize
-    requires { ⌜ has-place (S·Screen .grid (now screen)) cursor ≡ true ⌝ }
-    ensures number { λ r. ⌜ r ≡ getD (page-numbers (page-at (S·Screen .grid (now (screen .entry))) cursor)) place 32 ⌝ }
+    requires { ⌜ has-place (grid (now screen)) cursor ≡ true ⌝ }
+    ensures number { λ r. ⌜ r ≡ getD (page-numbers (page-at (grid (now (screen .entry))) cursor)) place 32 ⌝ }
     ensures small { λ r. ⌜ r < 2 ^ 14 ⌝ }
 {
     match place {
@@ -33,7 +33,7 @@ fn page_number<S: Screen>(screen: &S, cursor: usize, place: usize) -> usize
 
 // A cell's number.
 fn cell_number<S: Screen>(screen: &S, place: usize) -> usize
-    ensures number { λ r. ⌜ r ≡ cell-number (getD (S·Screen .grid (now (screen .entry)) .cells) place blank) ⌝ }
+    ensures number { λ r. ⌜ r ≡ cell-number (getD (grid (now (screen .entry)) .cells) place blank) ⌝ }
     ensures small { λ r. ⌜ r < 2 ^ 14 ⌝ }
 {
     match screen.read(place) {
@@ -44,15 +44,15 @@ fn cell_number<S: Screen>(screen: &S, place: usize) -> usize
 
 // Whether the place is on the screen.
 fn is_on<S: Screen>(screen: &S, place: usize) -> bool
-    ensures { λ r. ⌜ r ≡ has-place (S·Screen .grid (now (screen .entry))) place ⌝ }
+    ensures { λ r. ⌜ r ≡ has-place (grid (now (screen .entry))) place ⌝ }
 {
     place < screen.rows() * screen.columns()
 }
 
 // How many octets the page has.
 fn page_length<S: Screen>(screen: &S, cursor: usize) -> usize
-    requires { ⌜ has-place (S·Screen .grid (now screen)) cursor ≡ true ⌝ }
-    ensures { λ r. ⌜ r ≡ length (octets-at (S·Screen .grid (now (screen .entry))) cursor) ⌝ }
+    requires { ⌜ has-place (grid (now screen)) cursor ≡ true ⌝ }
+    ensures { λ r. ⌜ r ≡ length (octets-at (grid (now (screen .entry))) cursor) ⌝ }
 {
     let count = 4 + screen.rows() * screen.columns();
     let mut length = 0;
@@ -64,11 +64,11 @@ fn page_length<S: Screen>(screen: &S, cursor: usize) -> usize
 
 // Writes the page into an area that has room for it, and answers its length.
 fn put_page<S: Screen>(screen: &S, cursor: usize, area: &mut [u8]) -> usize
-    requires on { ⌜ has-place (S·Screen .grid (now screen)) cursor ≡ true ⌝ }
-    requires room { ⌜ length (octets-at (S·Screen .grid (now screen)) cursor) ≤ length (now area) ⌝ }
-    ensures area { λ _. ⌜ now (area .exit) ≡ over (octets-at (S·Screen .grid (now (screen .entry))) cursor) (now (area .entry)) ⌝ }
-    ensures length { λ r. ⌜ r ≡ length (octets-at (S·Screen .grid (now (screen .entry))) cursor) ⌝ }
-    ensures back { λ r. ⌜ ReadsBack (S·Screen .grid (now (screen .entry))) cursor (take r (now (area .exit))) ⌝ }
+    requires on { ⌜ has-place (grid (now screen)) cursor ≡ true ⌝ }
+    requires room { ⌜ length (octets-at (grid (now screen)) cursor) ≤ length (now area) ⌝ }
+    ensures area { λ _. ⌜ now (area .exit) ≡ over (octets-at (grid (now (screen .entry))) cursor) (now (area .entry)) ⌝ }
+    ensures length { λ r. ⌜ r ≡ length (octets-at (grid (now (screen .entry))) cursor) ⌝ }
+    ensures back { λ r. ⌜ ReadsBack (grid (now (screen .entry))) cursor (take r (now (area .exit))) ⌝ }
 {
     let count = 4 + screen.rows() * screen.columns();
     let mut end = 0;
@@ -80,9 +80,9 @@ fn put_page<S: Screen>(screen: &S, cursor: usize, area: &mut [u8]) -> usize
 
 // Writes the page of a screen, with the cursor at this place, into the area, and answers its length.
 pub fn write_page<S: Screen>(screen: &S, cursor: usize, area: &mut [u8]) -> Result<usize, Refusal>
-    ensures area { λ _. ⌜ now (area .exit) ≡ writes (S·Screen .grid (now (screen .entry))) cursor (now (area .entry)) .area ⌝ }
-    ensures answer { λ r. ⌜ r ≡ writes (S·Screen .grid (now (screen .entry))) cursor (now (area .entry)) .answer ⌝ }
-    ensures read_back { λ r. ⌜ made r (λ n. ReadsBack (S·Screen .grid (now (screen .entry))) cursor (take n (now (area .exit)))) ⌝ }
+    ensures area { λ _. ⌜ now (area .exit) ≡ writes (grid (now (screen .entry))) cursor (now (area .entry)) .area ⌝ }
+    ensures answer { λ r. ⌜ r ≡ writes (grid (now (screen .entry))) cursor (now (area .entry)) .answer ⌝ }
+    ensures read_back { λ r. ⌜ made r (λ n. ReadsBack (grid (now (screen .entry))) cursor (take n (now (area .exit)))) ⌝ }
 {
     if !is_on(screen, cursor) {
         return Err(Refusal::OffScreen);

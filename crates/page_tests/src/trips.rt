@@ -13,7 +13,7 @@ pub fn there_and_back<S: Screen>(screen: &mut S, seed: u32) -> Result<bool, Refu
     let mut area = [0xee; 4000];
     let length = write_page(screen, cursor, &mut area)?;
     clear(screen);
-    if length >= 4000 {
+    if length == 0 || length >= 4000 {
         return Ok(false);
     }
     let found = read_page(&area[0..length], screen)?;

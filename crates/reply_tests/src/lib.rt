@@ -1,8 +1,12 @@
 // A whole reply, composed as a station does it.
 ghost use mathlib.Core.Path.{_≡_};
+ghost use Rattle.std.specs.Vec.{made};
+ghost use Rattle.reply.specs.Octets.{SOH-first};
+ghost use Rattle.reply.specs.Steps.{closed};
+ghost use Rattle.reply.specs.Progress.{Shows};
 ghost use Rattle.reply_tests.specs.declared.Fault.the-variants.{ShortArea};
+ghost use Rattle.reply_tests.specs.Characters.{characters};
 use area::Refusal;
-use codes::DLE;
 use codes::ETX;
 use codes::STX;
 use line::Line;
@@ -35,18 +39,22 @@ pub impl From<Refused> for Fault as FaultFromRefused {
     }
 }
 
-// The station's addresses, an acknowledgement if one is due, and a text.
-pub fn compose<L: Line>(line: &L, area: &mut [u8], due: bool, text: &[u8]) -> Result<usize, Fault> {
+// The station's addresses, an acknowledgement or nothing, and a text: the area then begins with that reply, and is as it
+// was behind it.
+pub fn compose<L: Line>(
+    line: &L,
+    area: &mut [u8],
+    acknowledgement: &[u8],
+    text: &[u8],
+) -> Result<usize, Fault>
+    ensures { λ r. ⌜ made r (λ n. Shows (L·Line .kind) (now (area .entry)) SOH-first (characters (now (acknowledgement .entry)) (now (text .entry))) (closed n) (now (area .exit))) ⌝ }
+{
     let reply = Begun::new(line, area)?;
-    let reply = reply.put_all(line, area, &[0x31, 0x61, 0x70])?;
-    let reply = if due {
-        reply.put_all(line, area, &[DLE, 0x31])?
-    } else {
-        reply
-    };
-    let reply = reply.put(line, area, STX)?;
-    let reply = reply.put_all(line, area, text)?;
-    let reply = reply.put(line, area, ETX)?;
-    let closed: Closed = reply.close(line, area)?;
+    let addressed = reply.put_all(line, area, &[0x31, 0x61, 0x70])?;
+    let acknowledged = addressed.put_all(line, area, acknowledgement)?;
+    let started = acknowledged.put(line, area, STX)?;
+    let told = started.put_all(line, area, text)?;
+    let ended = told.put(line, area, ETX)?;
+    let closed: Closed = ended.close(line, area)?;
     Ok(closed.length)
 }
