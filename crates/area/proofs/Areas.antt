@@ -4,7 +4,7 @@ use mathlib.Core.List.{List, [], _∷_, _++_}
 use Prim.Native.Nat.{ℕ, _+_, _-_, _<_, _≤_}
 use native.Mathlib.Omega.{arith}
 use lib.ListN.{length, take, drop, set, getD, length-append, length-drop, length-take}
-use Rattle.std.proofs.shelf.Lists.{append-assoc, append-nil, set-at, take-at, drop-at, drop-drop, drop-more, length-push, take-append-drop, set-append-right, length-take-le}
+use Rattle.std.proofs.shelf.Lists.{append-assoc, set-at, take-at, drop-at, drop-drop, drop-more, length-push, take-append-drop, set-append-right, length-take-le}
 use Rattle.area.specs.Over.{over, written-at}
 
 pub length-over : {A : Type 0} (xs a : List A) → length xs ≤ length a → length (over xs a) ≡ length a

@@ -7,7 +7,6 @@ use Prim.Native.Nat.{ℕ, suc, _+_, _-_, _*_, _/_, _%_, _^_, _<_, _≤_}
 use native.Mathlib.Omega.{arith}
 use lib.Dec.{ltb}
 use lib.ListN.{getD}
-use Rattle.std.specs.declared.result.Result.{Result}
 use Rattle.std.specs.declared.result.Result.the-variants.{Ok, Err}
 use Rattle.std.proofs.shelf.Tests.{lt-ltb, le-ltb, ltb-true, and-from, and-parts, cond-true, cond-false, cases-lt}
 use Rattle.page.specs.declared.refusal.Refusal.the-variants.{WrongNumber}

@@ -1,14 +1,13 @@
 -- A page written and read back, and a page read and written back.
 use mathlib.Core.Path.{_≡_, refl, sym, ap, subst, _∙_}
-use mathlib.Core.Bool.{Bool, true, false, cond, _&&_}
+use mathlib.Core.Bool.{Bool, true, false, cond}
 use mathlib.Core.List.{List, [], _∷_, _++_, map}
-use Prim.Native.Nat.{ℕ, zero, suc, _+_, _-_, _*_, _%_, _^_, _<_, _≤_}
+use Prim.Native.Nat.{ℕ, zero, suc, _+_, _-_, _*_, _%_, _<_, _≤_}
 use native.Mathlib.Omega.{arith}
 use lib.Dec.{leb, ltb, eqb}
 use lib.ListN.{length, getD}
 use Rattle.std.specs.Joined.{joined}
-use Rattle.std.specs.declared.result.Result.{Result}
-use Rattle.std.specs.declared.result.Result.the-variants.{Ok, Err}
+use Rattle.std.specs.declared.result.Result.the-variants.{Ok}
 use Rattle.std.proofs.shelf.Bits.{mul-le}
 use Rattle.std.proofs.shelf.Lists.{append-assoc, append-nil}
 use Rattle.std.proofs.shelf.Tests.{le-leb, lt-leb, lt-ltb, eq-eqb, ltb-true, eqb-true, and-from, and-parts, cond-true}
@@ -16,10 +15,9 @@ use Rattle.std.proofs.shelf.Ways.{tells}
 use Rattle.screen.specs.Cells.{Cell, cell, blank, storable}
 use Rattle.screen.specs.Grid.{Grid, Sound, with-cells}
 use Rattle.screen.proofs.Cells.{storable-seven}
-use Rattle.page.specs.declared.refusal.Refusal.{Refusal}
 use Rattle.page.specs.declared.reader.Header.{Header}
 use Rattle.page.specs.Numbers.{number, Read, read, then, first-where}
-use Rattle.page.specs.Pages.{Page, cell-number, page-numbers, page-octets, is-cell, cell-of, cell-in, cells-in, within, cursor-in, columns-in, rows-in, header-in, ended, page-in}
+use Rattle.page.specs.Pages.{Page, cell-number, page-octets, is-cell, cell-of, cell-in, cells-in, within, cursor-in, columns-in, rows-in, header-in, ended, page-in}
 use Rattle.page.specs.Calls.{page-at, octets-at, Drawn, draws, same-size, reads}
 use Rattle.page.specs.declared.read.Checked.{Checked}
 use Rattle.page.specs.Checks.{page-of, Found, Shown}

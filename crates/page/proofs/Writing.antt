@@ -1,7 +1,6 @@
 -- A page's numbers written one after another.
 use mathlib.Core.Path.{_≡_, refl, sym, ap, _∙_}
 use mathlib.Core.List.{List, [], _∷_, _++_, map}
-use mathlib.Core.Logic.{⊎-elim}
 use Prim.Native.Nat.{ℕ, zero, suc, _+_, _-_, _*_, _/_, _%_, _<_, _≤_}
 use native.Mathlib.Omega.{arith}
 use lib.ListN.{length, take, getD, set, length-append}
@@ -12,7 +11,7 @@ use Rattle.area.proofs.Areas.{written-one, written-push, over-written}
 use Rattle.screen.specs.Cells.{Cell, blank}
 use Rattle.screen.specs.Grid.{Grid, Sound}
 use Rattle.page.specs.Numbers.{number}
-use Rattle.page.specs.Pages.{Page, cell-number, page-numbers, page-octets}
+use Rattle.page.specs.Pages.{Page, cell-number, page-numbers}
 use Rattle.page.specs.Calls.{page-at, octets-at, reads, ReadsBack}
 use Rattle.page.proofs.Numerals.{small-number, large-number}
 use Rattle.page.proofs.Trips.{reads-back}

@@ -10,10 +10,10 @@ use Rattle.codes.specs.Ascii.{SYN}
 use Rattle.line.specs.Kind.{Kind}
 use Rattle.receiver.specs.Check.{block-check}
 use Rattle.area.specs.Over.{over, written-at}
-use Rattle.area.proofs.Areas.{over-push, written-none, written-push, over-written}
+use Rattle.area.proofs.Areas.{over-push, written-push, over-written}
 use Rattle.reply.specs.declared.begun.Begun.{Begun}
 use Rattle.reply.specs.declared.begun.Closed.{Closed}
-use Rattle.reply.specs.Octets.{lead, octets, so-far, whole, checked}
+use Rattle.reply.specs.Octets.{lead, octets, so-far}
 use Rattle.reply.specs.Steps.{begun, closed, longer}
 use Rattle.reply.specs.Progress.{Holds, Shows}
 use Rattle.reply.proofs.Sums.{check-append}
