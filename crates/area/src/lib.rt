@@ -1,4 +1,6 @@
 // An area of octets that the caller lends: what is written stands over its octets, and all others stay as they were.
+#![tactic(auto)]
+
 ghost use Rattle.std.specs.Prelude.{◌≡◌};
 ghost use Rattle.area.specs.Over.{fits};
 ghost use Rattle.area.specs.Numbers.{number_of};

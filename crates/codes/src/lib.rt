@@ -1,4 +1,6 @@
 // The codes of the terminal: seven-bit ASCII, the control codes by their standard names.
+#![tactic(auto)]
+
 pub mod class;
 
 pub const NUL: u8 = 0x00;

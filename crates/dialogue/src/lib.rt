@@ -1,4 +1,6 @@
 // A whole dialogue on a new terminal, judged by the contracts of the terminal alone.
+#![tactic(auto)]
+
 ghost use Rattle.std.specs.Prelude.{◌≡◌, ◌≤◌, map, length, IfOk, OnOk};
 ghost use Rattle.terminal.specs.Events.{event_of};
 ghost use Rattle.dialogue.specs.Tally.{told, RepeatsAlike};

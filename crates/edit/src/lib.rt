@@ -1,4 +1,6 @@
 // What steps of a host text and keys do to the cells of a screen and its cursor.
+#![tactic(auto)]
+
 pub mod apply;
 pub mod cell;
 pub mod edits;

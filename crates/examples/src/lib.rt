@@ -1,4 +1,6 @@
 // The settled examples, proved together on the definitions that the contracts use.
+#![tactic(auto)]
+
 ghost use Rattle.examples.specs.Settled.{LineOctets, PollCheck, NoTrafficCheck};
 
 // It computes nothing: its contract is the examples.

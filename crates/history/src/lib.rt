@@ -1,4 +1,6 @@
 // The histories of a terminal, and the law that every one of them keeps.
+#![tactic(auto)]
+
 ghost use Rattle.history.specs.Law.{Law};
 
 use line::Line;

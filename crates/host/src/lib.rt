@@ -1,4 +1,6 @@
 // Carries out host texts on any screen.
+#![tactic(auto)]
+
 pub mod carry;
 mod draw;
 pub mod effect;

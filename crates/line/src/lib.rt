@@ -1,4 +1,6 @@
 // A line turns characters, 00 to 7F, into octets and back.
+#![tactic(auto)]
+
 ghost use Rattle.std.specs.Prelude.{◌≡◌, ℕ, ◌%◌};
 ghost use Rattle.line.specs.Kind.{Kind, GivesBack, DetectsOneBit, LeadFits, InRange};
 ghost use Rattle.line.specs.Octet.{wanted, given};

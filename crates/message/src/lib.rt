@@ -1,4 +1,6 @@
 // The forms of a message: RID SID DID, and then a poll, a poll with acknowledgement, a repeat request or a text.
+#![tactic(auto)]
+
 ghost use Rattle.std.specs.Prelude.{◌≡◌};
 ghost use Rattle.message.specs.Forms.{form_in, addressed, message_in};
 ghost use Rattle.message.specs.Shown.{form_of, message_of};

@@ -1,4 +1,6 @@
 // The line monitor: reads a capture of line octets as a script, and prints what was on the line.
+#![tactic(auto)]
+
 mod listing;
 mod octets;
 mod run;

@@ -1,4 +1,6 @@
 // The kept page: a screen's cells and cursor place as octets, to be kept and read again.
+#![tactic(auto)]
+
 pub(crate) mod number;
 pub mod read;
 pub mod reader;

@@ -1,4 +1,6 @@
 // Pages tried on screens of every size: random cells there and back, and pages damaged at every place.
+#![tactic(auto)]
+
 pub mod damage;
 pub mod random;
 #[cfg(test)]

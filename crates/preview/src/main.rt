@@ -1,4 +1,6 @@
 // The form preview: carries host texts out on a screen and shows what they draw.
+#![tactic(auto)]
+
 mod form;
 mod lines;
 mod pages;

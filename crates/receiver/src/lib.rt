@@ -1,4 +1,6 @@
 // The receiver: it collects the characters of a message and tests the block check.
+#![tactic(auto)]
+
 pub mod check;
 pub mod fault;
 pub mod hear;

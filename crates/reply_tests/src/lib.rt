@@ -1,4 +1,6 @@
 // A whole reply, composed as a station does it.
+#![tactic(auto)]
+
 ghost use Rattle.std.specs.Prelude.{◌≡◌, IfOk};
 ghost use Rattle.reply.specs.Octets.{SOHFirst};
 ghost use Rattle.reply.specs.Steps.{closed};

@@ -1,4 +1,6 @@
 // Scripts: lines of words, with codes and octets as two hexadecimal digits.
+#![tactic(auto)]
+
 pub mod error;
 pub mod hex;
 pub mod number;

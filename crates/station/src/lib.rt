@@ -1,4 +1,6 @@
 // A terminal's rules beside its line: keys, polls and replies, and what a call answers.
+#![tactic(auto)]
+
 pub mod answer;
 pub mod console;
 pub mod fault;

@@ -1,4 +1,6 @@
 // Two stores of cells: a word a cell in the caller's area, and characters beside a map of protection bits.
+#![tactic(auto)]
+
 pub mod map_store;
 pub(crate) mod marks;
 pub(crate) mod rows;

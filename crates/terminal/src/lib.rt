@@ -1,4 +1,6 @@
 // The terminal: keys, octets and replies, over any line and any screen.
+#![tactic(auto)]
+
 pub mod new;
 mod obey;
 pub mod pages;

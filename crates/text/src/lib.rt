@@ -1,4 +1,6 @@
 // A host text, read step by step.
+#![tactic(auto)]
+
 pub mod examples;
 pub mod reader;
 pub mod step;

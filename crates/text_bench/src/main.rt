@@ -1,5 +1,7 @@
 // Carries out a full form of 24 rows of 80 as often as the argument says, and prints a sum over the cells that it leaves.
 // bench/run compares its time with that of the same work in plain Rust.
+#![tactic(auto)]
+
 use codes::{ESC, HT, SI, SO, SPACE, VT};
 use edit::cell::cell_at;
 use host::carry::carry_out;

@@ -1,5 +1,7 @@
 // Carries out host texts and prints what each leaves. A line is the rows and the columns of a new screen, and then texts
 // as codes in hexadecimal, each closed by a slash; cursor, lock, light and held text go on from text to text.
+#![tactic(auto)]
+
 use codes::SPACE;
 use edit::cell::{cell_at, cell_count};
 use host::carry::carry_out;
