@@ -7,14 +7,14 @@ use Rattle.text.proofs.Pieces.{data_low, leading_at, address_good, address_broke
 use Rattle.text.proofs.reader.address_at.Goals as goal
 use Rattle.text.proofs.reader.address_at.Goals.{else-data-ge2-via-then-data-ge2+then-at-text+else-text-at-eq-SI, else-data-ge2-via-then-data-ge2+else-at-text, else-data-ge2-via-else-data-ge2}
 
-pub overflow-sub-result : goal.overflow-sub-result
-overflow-sub-result c =
+pub overflow_sub-result : goal.overflow_sub-result
+overflow_sub-result c =
     let t = c.args.text.now in let at = c.args.at in
     let h : 32 ≤ get_or (drop at t) 0 0 = data_low (get_or (drop at t) 0 0) (leading_at is_data 0 (drop at t) 0 (omega arith)) in
     omega (arith, get_or-drop at t 0 0, ap (λ k. get_or t k 0) (add-zero at))
 
-pub overflow-sub-result-then-text-at-eq-SI : goal.overflow-sub-result-then-text-at-eq-SI
-overflow-sub-result-then-text-at-eq-SI c =
+pub overflow_sub-result-then-text-at-eq-SI : goal.overflow_sub-result-then-text-at-eq-SI
+overflow_sub-result-then-text-at-eq-SI c =
     let t = c.args.text.now in let at = c.args.at in
     let h : 32 ≤ get_or (drop at t) 1 0 = data_low (get_or (drop at t) 1 0) (leading_at is_data 0 (drop at t) 1 (omega arith)) in
     omega (arith, get_or-drop at t 1 0)

@@ -4,17 +4,17 @@ use Rattle.codes.specs.Classes.{is_data}
 use Rattle.text.proofs.Pieces.{piece_run, piece_control, piece_end, piece_address, piece_escape}
 use Rattle.text.proofs.reader.step_at.Goals as goal
 
-pub slice-bounds-result-end : goal.slice-bounds-result-end
-slice-bounds-result-end c = omega (arith, prefix_len-le-length is_data (drop c.args.at c.args.text.now), length-drop c.args.at c.args.text.now)
+pub slice_bounds-result-end : goal.slice_bounds-result-end
+slice_bounds-result-end c = omega (arith, prefix_len-le-length is_data (drop c.args.at c.args.text.now), length-drop c.args.at c.args.text.now)
 
-pub returns-then-is-data : goal.returns-then-is-data
-returns-then-is-data c =
-    let e = piece_run c.args.at c.run-end-end.result c.args.text.now c.requires (sym c.if-is-data.ensures) c.run-end-end.ensures in
+pub returns-then-is_data : goal.returns-then-is_data
+returns-then-is_data c =
+    let e = piece_run c.args.at c.run_end-end.result c.args.text.now c.requires (sym c.if-is_data.ensures) c.run_end-end.ensures in
     record { step = sym (ap (λ x. x.step) e); taken = sym (ap (λ x. x.taken) e) }
 
 pub returns-then-code-ne-ESC : goal.returns-then-code-ne-ESC
 returns-then-code-ne-ESC c =
-    let e = piece_control c.args.at c.args.text.now (sym c.if-is-data.ensures) c.if-code-ne-ESC.true in
+    let e = piece_control c.args.at c.args.text.now (sym c.if-is_data.ensures) c.if-code-ne-ESC.true in
     record { step = sym (ap (λ x. x.step) e); taken = sym (ap (λ x. x.taken) e) }
 
 pub returns-then-at-text : goal.returns-then-at-text

@@ -16,8 +16,8 @@ loop-i-preserved g c =
     let w = c.columns-columns.result in
     let fits = rows_fit G c.args.row c.rows-rows.result w (g.Self.Screen.sound s) c.if-row-rows.false c.rows-rows.ensures c.columns-columns.ensures in
     let some : 0 < w = omega (arith, c.columns-columns.ensures, (g.Self.Screen.sound s).column_least) in (
-      c.copy-cell.ensures.rest ∙ c.loop-i.invariant.0,
-      c.copy-cell.ensures.grid
+      c.copy_cell.ensures.rest ∙ c.loop-i.invariant.0,
+      c.copy_cell.ensures.grid
           ∙ lower_more G _ (c.args.row * w) w ((c.rows-rows.result - 1 - c.args.row) * w) c.loop-i.i (c.loop-i.i - 1) (omega arith) (omega arith) c.loop-i.auto.i some c.loop-i.invariant.1,
     )
 

@@ -13,8 +13,8 @@ loop-i-preserved g c =
     let G = g.Self.Screen.grid s in
     let w = c.columns-columns.result in
     let fits = rows_fit G c.args.row c.rows-rows.result w (g.Self.Screen.sound s) c.if-row-rows.false c.rows-rows.ensures c.columns-columns.ensures in (
-      c.copy-cell.ensures.rest ∙ c.loop-i.invariant.0,
-      c.copy-cell.ensures.grid ∙ lift_more G _ (c.args.row * w) w c.loop-i.i (omega arith) c.loop-i.invariant.1,
+      c.copy_cell.ensures.rest ∙ c.loop-i.invariant.0,
+      c.copy_cell.ensures.grid ∙ lift_more G _ (c.args.row * w) w c.loop-i.i (omega arith) c.loop-i.invariant.1,
     )
 
 pub returns : goal.returns
