@@ -5,7 +5,7 @@ use Rattle.examples.proofs.examples_hold.Goals as goal
 pub returns : goal.returns
 unfolding ones
 returns c = record {
-  line-octets = record {
+  line_octets = record {
     synchronous_soh = refl;
     synchronous_etx = refl;
     asynchronous_soh = refl;

@@ -10,12 +10,12 @@ returns g c =
     let before = c.args.area.now in
     let ack = c.args.acknowledgement.now in
     let text = c.args.text.now in
-    let begun = c.in-ok-reply.ensures.begins in
-    let addressed = c.in-ok-addressed.ensures.extends before SOHFirst [] begun in
-    let acknowledged = c.in-ok-acknowledged.ensures.extends before SOHFirst (0x31 ∷ 0x61 ∷ 0x70 ∷ []) addressed in
-    let started = c.in-ok-started.ensures.extends before SOHFirst (0x31 ∷ 0x61 ∷ 0x70 ∷ ack) acknowledged in
-    let told = c.in-ok-told.ensures.extends before SOHFirst (0x31 ∷ 0x61 ∷ 0x70 ∷ (ack ++ (STX ∷ []))) started in
-    let ended = c.in-ok-ended.ensures.extends before SOHFirst (0x31 ∷ 0x61 ∷ 0x70 ∷ ((ack ++ (STX ∷ [])) ++ text)) told in
-    let shown = c.in-ok-closed.ensures.ends before SOHFirst (0x31 ∷ 0x61 ∷ 0x70 ∷ (((ack ++ (STX ∷ [])) ++ text) ++ (ETX ∷ []))) ended in
+    let begun = c.in_ok-reply.ensures.begins in
+    let addressed = c.in_ok-addressed.ensures.extends before SOHFirst [] begun in
+    let acknowledged = c.in_ok-acknowledged.ensures.extends before SOHFirst (0x31 ∷ 0x61 ∷ 0x70 ∷ []) addressed in
+    let started = c.in_ok-started.ensures.extends before SOHFirst (0x31 ∷ 0x61 ∷ 0x70 ∷ ack) acknowledged in
+    let told = c.in_ok-told.ensures.extends before SOHFirst (0x31 ∷ 0x61 ∷ 0x70 ∷ (ack ++ (STX ∷ []))) started in
+    let ended = c.in_ok-ended.ensures.extends before SOHFirst (0x31 ∷ 0x61 ∷ 0x70 ∷ ((ack ++ (STX ∷ [])) ++ text)) told in
+    let shown = c.in_ok-closed.ensures.ends before SOHFirst (0x31 ∷ 0x61 ∷ 0x70 ∷ (((ack ++ (STX ∷ [])) ++ text) ++ (ETX ∷ []))) ended in
     let joined : ((ack ++ (STX ∷ [])) ++ text) ++ (ETX ∷ []) ≡ ack ++ (STX ∷ (text ++ (ETX ∷ []))) = simp append_assoc in
-    subst (λ t. Shows g.L.Line.kind before SOHFirst (0x31 ∷ 0x61 ∷ 0x70 ∷ t) c.in-ok-closed.closed c.close.new.area) joined shown
+    subst (λ t. Shows g.L.Line.kind before SOHFirst (0x31 ∷ 0x61 ∷ 0x70 ∷ t) c.in_ok-closed.closed c.close.new.area) joined shown

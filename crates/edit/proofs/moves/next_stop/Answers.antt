@@ -10,14 +10,14 @@ pub loop-at-preserved : goal.loop-at-preserved
 loop-at-preserved g c =
     let cs = (g.S.Screen.grid c.args.screen.now).cells in
     let at = c.loop-at.at in
-    let no : no_stop (get_or cs at blank) ≡ true = sym (ap no_stop c.cell-at.ensures.value) ∙ ap not (ne_eqb c.cell-at.result.0 HT c.if-cell-at-ne-HT.true) in
+    let no : no_stop (get_or cs at blank) ≡ true = sym (ap no_stop c.cell_at.ensures.value) ∙ ap not (ne_eqb c.cell_at.result.0 HT c.if-cell_at-ne-HT.true) in
     omega (arith, prefix_len-drop_yes no_stop cs at blank (omega arith) no, c.loop-at.invariant)
 
-pub returns-else-cell-at-ne-HT : goal.returns-else-cell-at-ne-HT
-returns-else-cell-at-ne-HT g c =
+pub returns-else-cell_at-ne-HT : goal.returns-else-cell_at-ne-HT
+returns-else-cell_at-ne-HT g c =
     let cs = (g.S.Screen.grid c.args.screen.now).cells in
     let at = c.loop-at.at in
-    let stop : no_stop (get_or cs at blank) ≡ false = sym (ap no_stop c.cell-at.ensures.value) ∙ ap not (eq-eqb c.cell-at.result.0 HT c.if-cell-at-ne-HT.false) in
+    let stop : no_stop (get_or cs at blank) ≡ false = sym (ap no_stop c.cell_at.ensures.value) ∙ ap not (eq-eqb c.cell_at.result.0 HT c.if-cell_at-ne-HT.false) in
     omega (arith, prefix_len-drop_no no_stop cs at blank (omega arith) stop, c.loop-at.invariant)
 
 pub returns-after-loop-at : goal.returns-after-loop-at

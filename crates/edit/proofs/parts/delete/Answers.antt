@@ -6,8 +6,8 @@ use Rattle.edit.proofs.PartsDrawn.{part, partly, length_part, partly_none, partl
 use Rattle.edit.proofs.parts.delete.Goals as goal
 use Rattle.edit.proofs.parts.delete.Goals.{then-k-end, else-k-end}
 
-pub overflow-add-end : goal.overflow-add-end
-overflow-add-end g c = let s = c.args.screen.now in omega (arith, size_most (g.S.Screen.grid s) (g.S.Screen.sound s))
+pub overflow_add-end : goal.overflow_add-end
+overflow_add-end g c = let s = c.args.screen.now in omega (arith, size_most (g.S.Screen.grid s) (g.S.Screen.sound s))
 
 pub loop-k-init : goal.loop-k-init
 loop-k-init g c = let v = g.S.Screen.grid c.args.screen.now in (refl, partly_none v c.args.from (deleted (part v c.args.from c.args.count)))
@@ -23,8 +23,8 @@ loop-k-preserved g c =
     elim c.if-k-end.branch [
       | then-k-end w ↦
           ap (λ x. written here k x.0 x.1) w.next-is
-          ∙ delete_more v here c.args.from c.args.count k (omega arith) (omega arith) c.requires w.cell-at-next.result.0 w.cell-at-next.result.1
-          w.if-k-end.true w.cell-at-next.ensures.stored w.cell-at-next.ensures.value i.1
+          ∙ delete_more v here c.args.from c.args.count k (omega arith) (omega arith) c.requires w.cell_at-next.result.0 w.cell_at-next.result.1
+          w.if-k-end.true w.cell_at-next.ensures.stored w.cell_at-next.ensures.value i.1
       | else-k-end w ↦
           ap (λ x. written here k x.0 x.1) w.next-is
           ∙ delete_last v here c.args.from c.args.count k (omega arith) (omega arith) c.requires (omega (arith, w.if-k-end.false)) i.1

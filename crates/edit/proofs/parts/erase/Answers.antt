@@ -4,8 +4,8 @@ use Rattle.edit.proofs.Sizes.{size_most}
 use Rattle.edit.proofs.PartsDrawn.{part, length_part, partly_none, partly_all, length_erased, erase_more}
 use Rattle.edit.proofs.parts.erase.Goals as goal
 
-pub overflow-add-end : goal.overflow-add-end
-overflow-add-end g c = let s = c.args.screen.now in omega (arith, size_most (g.S.Screen.grid s) (g.S.Screen.sound s))
+pub overflow_add-end : goal.overflow_add-end
+overflow_add-end g c = let s = c.args.screen.now in omega (arith, size_most (g.S.Screen.grid s) (g.S.Screen.sound s))
 
 pub loop-k-init : goal.loop-k-init
 loop-k-init g c = let v = g.S.Screen.grid c.args.screen.now in (refl, partly_none v c.args.from (erased (part v c.args.from c.args.count)))

@@ -6,8 +6,8 @@ use Rattle.edit.proofs.Sizes.{size_most}
 use Rattle.edit.proofs.PartsDrawn.{part, length_part, partly_none, partly_all, length_pushed, insert_more, insert_next}
 use Rattle.edit.proofs.parts.insert.Goals as goal
 
-pub overflow-add-end : goal.overflow-add-end
-overflow-add-end g c = let s = c.args.screen.now in omega (arith, size_most (g.S.Screen.grid s) (g.S.Screen.sound s))
+pub overflow_add-end : goal.overflow_add-end
+overflow_add-end g c = let s = c.args.screen.now in omega (arith, size_most (g.S.Screen.grid s) (g.S.Screen.sound s))
 
 pub loop-k-init : goal.loop-k-init
 loop-k-init g c =
@@ -24,8 +24,8 @@ loop-k-preserved g c =
     let i = c.loop-k.invariant in (
       e.rest ∙ i.0,
       e.grid ∙ insert_more v here c.args.from c.args.count c.loop-k.k (omega arith) (omega arith) c.requires c.loop-k.before.0 c.loop-k.before.1 i.3 i.2 i.1,
-      c.cell-at-here.ensures.value ∙ insert_next v here c.args.from c.args.count c.loop-k.k (omega arith) (omega arith) c.requires i.1,
-      c.cell-at-here.ensures.stored,
+      c.cell_at-here.ensures.value ∙ insert_next v here c.args.from c.args.count c.loop-k.k (omega arith) (omega arith) c.requires i.1,
+      c.cell_at-here.ensures.stored,
     )
 
 pub returns : goal.returns

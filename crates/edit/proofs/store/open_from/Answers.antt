@@ -7,12 +7,12 @@ use Rattle.edit.proofs.store.open_from.Goals as goal
 pub loop-at-preserved : goal.loop-at-preserved
 loop-at-preserved g c =
     let cs = (g.S.Screen.grid c.args.screen.now).cells in
-    omega (arith, prefix_len-drop_yes is_protected cs c.loop-at.at blank (omega arith) (sym (ap is_protected c.cell-at.ensures.value) ∙ c.if-cell-at.true), c.loop-at.invariant)
+    omega (arith, prefix_len-drop_yes is_protected cs c.loop-at.at blank (omega arith) (sym (ap is_protected c.cell_at.ensures.value) ∙ c.if-cell_at.true), c.loop-at.invariant)
 
-pub returns-else-cell-at : goal.returns-else-cell-at
-returns-else-cell-at g c =
+pub returns-else-cell_at : goal.returns-else-cell_at
+returns-else-cell_at g c =
     let cs = (g.S.Screen.grid c.args.screen.now).cells in
-    omega (arith, prefix_len-drop_no is_protected cs c.loop-at.at blank (omega arith) (sym (ap is_protected c.cell-at.ensures.value) ∙ c.if-cell-at.false), c.loop-at.invariant)
+    omega (arith, prefix_len-drop_no is_protected cs c.loop-at.at blank (omega arith) (sym (ap is_protected c.cell_at.ensures.value) ∙ c.if-cell_at.false), c.loop-at.invariant)
 
 pub returns-after-loop-at : goal.returns-after-loop-at
 returns-after-loop-at g c =

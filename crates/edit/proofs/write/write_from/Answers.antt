@@ -17,11 +17,11 @@ loop-code-preserved g c =
     let inv = c.loop-code.invariant in
     let e = c.write.ensures in
     let start = view (g.S.Screen.grid c.args.screen.now) c.args.from in
-    let count = c.cell-count-count.ensures.value in
+    let count = c.cell_count-count.ensures.value in
     let next = c.round-place.ensures ∙ ap (λ n. (c.loop-code.place + 1) % n) (count ∙ sym inv.1) in (
       e.rest ∙ inv.0,
       ap size e.grid ∙ size_written here c.loop-code.place code m ∙ inv.1,
-      omega (arith, c.round-place.ensures, mod_below (c.loop-code.place + 1) c.cell-count-count.result c.cell-count-count.ensures.some),
+      omega (arith, c.round-place.ensures, mod_below (c.loop-code.place + 1) c.cell_count-count.result c.cell_count-count.ensures.some),
       ap (λ v. view v c.round-place.result) e.grid
           ∙ ap (λ p. view (typed m (view here c.loop-code.place) code).grid p) next
           ∙ ap (λ v. typed m v code) inv.3

@@ -9,4 +9,4 @@ returns c =
     let cs = c.args.characters.now in
     let long = le-leb 3 (length cs) (omega arith) in
     let tail = ap form_in (between_to_end cs 3 (length cs) (omega arith)) in
-    rw long (c.with-form.ensures ∙ ap (addressed _ _ _) (c.read-form.ensures ∙ tail))
+    rw long (c.with_form.ensures ∙ ap (addressed _ _ _) (c.read-form.ensures ∙ tail))

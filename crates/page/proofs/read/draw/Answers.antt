@@ -5,8 +5,8 @@ use Rattle.page.proofs.read.draw.Goals as goal
 
 pub loop-place-preserved : goal.loop-place-preserved
 loop-place-preserved g c = (
-  c.draw-cell.ensures.rest ∙ c.loop-place.invariant.0,
-  λ cs d. drawing_more _ cs c.args.count _ c.loop-place.place _ (c.loop-place.invariant.1 cs d) c.loop-place-test.true _ _ c.draw-cell.ensures.cell,
+  c.draw_cell.ensures.rest ∙ c.loop-place.invariant.0,
+  λ cs d. drawing_more _ cs c.args.count _ c.loop-place.place _ (c.loop-place.invariant.1 cs d) c.loop-place-test.true _ _ c.draw_cell.ensures.cell,
 )
 
 pub returns : goal.returns

@@ -13,8 +13,8 @@ loop-place-preserved g c =
     let ns = page_numbers (page_at G c.args.cursor) in
     let i = c.loop-place.place in
     let on = on_page G (g.S.Screen.sound s) c.rows.result c.columns.result c.args.cursor i c.rows.ensures c.columns.ensures (omega arith) in (
-      ap (λ x. c.loop-place.length + x) c.number-length-length.ensures.length
-          ∙ end_more ns i c.loop-place.length c.page-number.result on c.loop-place.invariant.0 c.page-number.ensures.number,
+      ap (λ x. c.loop-place.length + x) c.number_length-length.ensures.length
+          ∙ end_more ns i c.loop-place.length c.page_number.result on c.loop-place.invariant.0 c.page_number.ensures.number,
       omega arith,
     )
 

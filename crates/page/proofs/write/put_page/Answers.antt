@@ -8,15 +8,15 @@ use Rattle.page.specs.Calls.{page_at}
 use Rattle.page.proofs.Writing.{put_more, end_more, numbers_fit, on_page, past_page, front_reads_back}
 use Rattle.page.proofs.write.put_page.Goals as goal
 
-pub put-number-end-requires : goal.put-number-end-requires
-put-number-end-requires g c =
+pub put_number-end-requires : goal.put_number-end-requires
+put_number-end-requires g c =
     let s = c.args.screen.now in
     let G = g.S.Screen.grid s in
     let ns = page_numbers (page_at G c.args.cursor) in
     let i = c.loop-place.place in
     let on = on_page G (g.S.Screen.sound s) c.rows.result c.columns.result c.args.cursor i c.rows.ensures c.columns.ensures (omega arith) in
-    let next = end_more ns i c.loop-place.end c.page-number.result on c.loop-place.invariant.0 c.page-number.ensures.number in
-    record { small = c.page-number.ensures.small; room = omega (arith, next, numbers_fit (i + 1) ns, c.requires.room, c.loop-place.auto.area) }
+    let next = end_more ns i c.loop-place.end c.page_number.result on c.loop-place.invariant.0 c.page_number.ensures.number in
+    record { small = c.page_number.ensures.small; room = omega (arith, next, numbers_fit (i + 1) ns, c.requires.room, c.loop-place.auto.area) }
 
 pub loop-place-preserved : goal.loop-place-preserved
 loop-place-preserved g c =
@@ -25,9 +25,9 @@ loop-place-preserved g c =
     let ns = page_numbers (page_at G c.args.cursor) in
     let i = c.loop-place.place in
     let on = on_page G (g.S.Screen.sound s) c.rows.result c.columns.result c.args.cursor i c.rows.ensures c.columns.ensures (omega arith) in (
-      c.put-number-end.ensures.next ∙ end_more ns i c.loop-place.end c.page-number.result on c.loop-place.invariant.0 c.page-number.ensures.number,
-      c.put-number-end.ensures.area
-          ∙ put_more ns i c.args.area.now c.loop-place.area c.loop-place.end c.page-number.result on c.loop-place.invariant.1 c.loop-place.invariant.0 c.page-number.ensures.number,
+      c.put_number-end.ensures.next ∙ end_more ns i c.loop-place.end c.page_number.result on c.loop-place.invariant.0 c.page_number.ensures.number,
+      c.put_number-end.ensures.area
+          ∙ put_more ns i c.args.area.now c.loop-place.area c.loop-place.end c.page_number.result on c.loop-place.invariant.1 c.loop-place.invariant.0 c.page_number.ensures.number,
     )
 
 pub returns : goal.returns

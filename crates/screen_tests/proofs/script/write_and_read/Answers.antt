@@ -11,7 +11,7 @@ returns g c =
     let G = g.S.Screen.grid c.args.screen.now in
     let p = c.args.place in
     let x : ℕ × Bool = (c.args.code, c.args.mark) in
-    let e = c.in-ok-write.ensures in
+    let e = c.in_ok-write.ensures in
     let w = (on_ok (writable G p c.args.code) tt tt e.answer).0 in
     let R : Bool → Result (ℕ × Bool) Refusal = λ b. on_screen b x in
     c.read.ensures ∙ ap (λ y. read_at y p) e.grid ∙ reads_back G p c.args.code c.args.mark w ∙ sym (ap R w)

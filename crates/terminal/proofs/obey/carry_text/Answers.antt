@@ -17,9 +17,9 @@ returns g c =
     let was = c.args.console.now in
     let ss = steps_of c.args.text.now in
     let v = at here was.host.cursor in
-    let e = c.carry-out-taken-up.ensures in
-    let there = g.S.Screen.grid c.carry-out-taken-up.new.screen in
-    let left = c.carry-out-taken-up.new.state in
+    let e = c.carry_out-taken_up.ensures in
+    let there = g.S.Screen.grid c.carry_out-taken_up.new.screen in
+    let left = c.carry_out-taken_up.new.state in
     let seen = left_at there left.cursor (drawn_all false ss v) (drawn_all_on false ss v (at_on here was.host.cursor (g.S.Screen.sound c.args.screen.now))) e.view in
     record {
       rest = e.rest;

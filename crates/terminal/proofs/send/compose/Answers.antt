@@ -13,14 +13,14 @@ returns g c =
     let first = c.args.first.now in
     let text = c.args.text.now in
     let from : List ℕ → List ℕ = λ t. c.args.identity.rid ∷ (c.args.identity.sid ∷ (DID ∷ t)) in
-    let begun = c.in-ok-reply.ensures.begins in
-    let addressed = c.in-ok-addressed.ensures.extends before SOHFirst [] begun in
-    let acknowledged = c.in-ok-acknowledged.ensures.extends before SOHFirst (from []) addressed in
-    let started = c.in-ok-started.ensures.extends before SOHFirst (from ack) acknowledged in
-    let told = c.in-ok-told.ensures.extends before SOHFirst (from (ack ++ first)) started in
-    let ended = c.in-ok-ended.ensures.extends before SOHFirst (from ((ack ++ first) ++ text)) told in
-    let shown = c.in-ok-closed.ensures.ends before SOHFirst (from (((ack ++ first) ++ text) ++ (ETX ∷ []))) ended in
+    let begun = c.in_ok-reply.ensures.begins in
+    let addressed = c.in_ok-addressed.ensures.extends before SOHFirst [] begun in
+    let acknowledged = c.in_ok-acknowledged.ensures.extends before SOHFirst (from []) addressed in
+    let started = c.in_ok-started.ensures.extends before SOHFirst (from ack) acknowledged in
+    let told = c.in_ok-told.ensures.extends before SOHFirst (from (ack ++ first)) started in
+    let ended = c.in_ok-ended.ensures.extends before SOHFirst (from ((ack ++ first) ++ text)) told in
+    let shown = c.in_ok-closed.ensures.ends before SOHFirst (from (((ack ++ first) ++ text) ++ (ETX ∷ []))) ended in
     let joined : ((ack ++ first) ++ text) ++ (ETX ∷ []) ≡ (ack ++ (first ++ text)) ++ (ETX ∷ []) = simp append_assoc in
-    let whole : Shows g.L.Line.kind before SOHFirst (from ((ack ++ (first ++ text)) ++ (ETX ∷ []))) c.in-ok-closed.closed c.close.new.area =
-    subst (λ t. Shows g.L.Line.kind before SOHFirst (from t) c.in-ok-closed.closed c.close.new.area) joined shown in
+    let whole : Shows g.L.Line.kind before SOHFirst (from ((ack ++ (first ++ text)) ++ (ETX ∷ []))) c.in_ok-closed.closed c.close.new.area =
+    subst (λ t. Shows g.L.Line.kind before SOHFirst (from t) c.in_ok-closed.closed c.close.new.area) joined shown in
     record { area = whole.octets; length = ap Ok whole.count }

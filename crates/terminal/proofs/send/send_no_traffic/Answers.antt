@@ -13,9 +13,9 @@ returns g c =
     let k = g.L.Line.kind in
     let before = c.args.area.now in
     let room : fits before 0 (k.lead + 4) ≡ true = le-leb (0 + (k.lead + 4)) (length before) (omega (arith, g.met.L.Line.lead.1, c.requires)) in
-    let e = c.in-ok-closed.ensures in
-    let told : ◌≡◌ {A = Result Closed Refusal} (Ok c.in-ok-closed.closed) (Ok (closed (k.lead + 4))) = e.answer ∙ ap (λ (x : Left Closed Refusal). x.answer) (cond-true (fits before 0 (k.lead + 4)) _ _ room) in
-    let count : c.in-ok-closed.closed ≡ closed (k.lead + 4) = cc in
+    let e = c.in_ok-closed.ensures in
+    let told : ◌≡◌ {A = Result Closed Refusal} (Ok c.in_ok-closed.closed) (Ok (closed (k.lead + 4))) = e.answer ∙ ap (λ (x : Left Closed Refusal). x.answer) (cond-true (fits before 0 (k.lead + 4)) _ _ room) in
+    let count : c.in_ok-closed.closed ≡ closed (k.lead + 4) = cc in
     let all : length (no_traffic_octets k) ≡ k.lead + 4 = simp (length-append, length-replicate) (omega arith) in
     record {
       area = e.area ∙ ap (λ (x : Left Closed Refusal). x.area) (cond-true (fits before 0 (k.lead + 4)) _ _ room);

@@ -7,7 +7,7 @@ overflow-cast-first g c =
     let s = c.args.screen.now in
     omega (arith, row_small (g.S.Screen.grid s) c.columns-columns.result c.args.first (g.S.Screen.sound s) c.columns-columns.ensures c.requires)
 
-pub overflow-add-first : goal.overflow-add-first
-overflow-add-first g c =
+pub overflow_add-first : goal.overflow_add-first
+overflow_add-first g c =
     let s = c.args.screen.now in
     omega (arith, row_small (g.S.Screen.grid s) c.columns-columns.result c.args.first (g.S.Screen.sound s) c.columns-columns.ensures c.requires)

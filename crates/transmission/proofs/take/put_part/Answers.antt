@@ -17,12 +17,12 @@ loop-k-preserved g c =
     let o = sent_of c.loop-k.held c.loop-k.last in
     let r = between (k + 1) to cs in
     let l : k < length cs = omega arith in
-    let v = c.cell-at-found.ensures.value in
+    let v = c.cell_at-found.ensures.value in
     elim c.if-sends.branch [
       | then-sends w ↦
           (let e : sent_of c.if-sends.held c.if-sends.last ≡ says kind o cell =
           ap (λ h. sent_of h c.if-sends.last) w.held-is ∙ ap (sent_of w.spell.new.self) w.last-is
-          ∙ ap (λ t. record { characters = t; last = c.cell-at-found.result.1 }) w.spell.ensures.text ∙ ap (says kind o) v in (
+          ∙ ap (λ t. record { characters = t; last = c.cell_at-found.result.1 }) w.spell.ensures.text ∙ ap (says kind o) v in (
             ap (sends kind r) e ∙ sym (sends_yes kind cs k to o c.loop-k-test.true l (sym (ap (is_sent kind) v) ∙ sym w.if-sends.ensures)) ∙ c.loop-k.invariant.0,
             omega (arith, ap (λ h. h.len) w.held-is, w.spell.ensures.len, c.loop-k.invariant.1),
           ))

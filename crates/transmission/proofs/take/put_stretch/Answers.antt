@@ -6,14 +6,14 @@ use Rattle.transmission.specs.Held.{sent_of}
 use Rattle.transmission.proofs.Parts.{row_top, row_after, stretch_row, stretch_end}
 use Rattle.transmission.proofs.take.put_stretch.Goals as goal
 
-pub overflow-mul-from : goal.overflow-mul-from
-overflow-mul-from g c =
+pub overflow_mul-from : goal.overflow_mul-from
+overflow_mul-from g c =
     let s = c.args.screen.now in
     let ok = g.S.Screen.sound s in
     omega (arith, row_top c.columns-columns.result c.loop-from.from, c.loop-from.invariant.1, size_most (g.S.Screen.grid s) ok, ok.column_most, c.requires)
 
-pub put-row-last-requires : goal.put-row-last-requires
-put-row-last-requires g c =
+pub put_row-last-requires : goal.put_row-last-requires
+put_row-last-requires g c =
     let s = c.args.screen.now in
     let ok = g.S.Screen.sound s in
     let after = row_after c.columns-columns.result c.loop-from.from (omega (arith, ok.column_least)) in
@@ -30,7 +30,7 @@ loop-from-preserved g c =
     let one : 0 < w = omega (arith, (g.S.Screen.sound s).column_least) in
     let after = row_after w from one in
     let i = c.loop-from.invariant in
-    let e = c.put-row-last.ensures in (
+    let e = c.put_row-last.ensures in (
       omega (arith, i.0),
       c.loop-from-test.true,
       omega (arith, i.0, i.2, e.len),
@@ -39,11 +39,11 @@ loop-from-preserved g c =
           ∙ i.3,
     )
 
-pub overflow-add-cursor : goal.overflow-add-cursor
-overflow-add-cursor g c = let s = c.args.screen.now in omega (arith, size_most (g.S.Screen.grid s) (g.S.Screen.sound s), c.requires)
+pub overflow_add-cursor : goal.overflow_add-cursor
+overflow_add-cursor g c = let s = c.args.screen.now in omega (arith, size_most (g.S.Screen.grid s) (g.S.Screen.sound s), c.requires)
 
-pub put-part-requires : goal.put-part-requires
-put-part-requires g c =
+pub put_part-requires : goal.put_part-requires
+put_part-requires g c =
     let s = c.args.screen.now in
     let most = size_most (g.S.Screen.grid s) (g.S.Screen.sound s) in
     let i = c.loop-from.invariant in
@@ -56,7 +56,7 @@ returns g c =
     let w = c.columns-columns.result in
     let most = size_most (g.S.Screen.grid s) (g.S.Screen.sound s) in
     let i = c.loop-from.invariant in
-    let e = c.put-part.ensures in
+    let e = c.put_part.ensures in
     record {
       sent = e.sent
           ∙ sym (stretch_end c.args.kind v w c.loop-from.from (sent_of c.loop-from.held c.loop-from.last) c.columns-columns.ensures (omega (arith, (g.S.Screen.sound s).column_least)) c.loop-from-test.false)

@@ -16,12 +16,12 @@ returns-then-self c =
       padded = refl;
     }
 
-pub returns-in-err-number : goal.returns-in-err-number
-returns-in-err-number c =
+pub returns-in_err-number : goal.returns-in_err-number
+returns-in_err-number c =
     let r = rest_of c.args.self.now in
     let part = take_rest c.args.self.now.octets.now c.args.self.now.place in
     let p = err_from_is_err_and c.from-residual.result c.from-residual.ensures.1 in
-    let e : first_number r ≡ Err c.in-err-number.field-0.0 = ap first_number (sym part) ∙ c.in-err-number.ensures in
+    let e : first_number r ≡ Err c.in_err-number.field-0.0 = ap first_number (sym part) ∙ c.in_err-number.ensures in
     record {
       answer = p.1 ∙ ap Err p.2 ∙ sym (ap told e);
       rest = sym (ap (λ d. left d r) e);
@@ -33,11 +33,11 @@ pub returns : goal.returns
 returns c =
     let os = c.args.self.now.octets.now in
     let p = c.args.self.now.place in
-    let n = c.in-ok-number.count in
+    let n = c.in_ok-number.count in
     let r = rest_of c.args.self.now in
     let part = take_rest os p in
-    let e : first_number r ≡ Ok (read c.in-ok-number.number (drop n (take (length os - p) r))) =
-    ap first_number (sym part) ∙ c.in-ok-number.ensures.0 in
+    let e : first_number r ≡ Ok (read c.in_ok-number.number (drop n (take (length os - p) r))) =
+    ap first_number (sym part) ∙ c.in_ok-number.ensures.0 in
     record {
       answer = sym (ap told e);
       rest = sym (drop-drop n p os) ∙ ap (drop n) (sym part) ∙ sym (ap (λ d. left d r) e);

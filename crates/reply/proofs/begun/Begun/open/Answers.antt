@@ -12,8 +12,8 @@ returns g c =
     let before = c.args.area.now in
     let written : c.send-place.new.area ≡ over (so_far k first []) before =
     c.send-place.ensures.area
-    ∙ ap (λ a. written_at a c.lead-length.result (octets k first)) c.write-lead.ensures
-    ∙ ap (λ n. written_at (over (lead k) before) n (octets k first)) c.lead-length.ensures
+    ∙ ap (λ a. written_at a c.lead_length.result (octets k first)) c.write_lead.ensures
+    ∙ ap (λ n. written_at (over (lead k) before) n (octets k first)) c.lead_length.ensures
     ∙ opens k first before in
-    let place : c.send-place.result ≡ k.lead + length first = c.send-place.ensures.next ∙ ap (λ n. n + length first) c.lead-length.ensures in
+    let place : c.send-place.result ≡ k.lead + length first = c.send-place.ensures.next ∙ ap (λ n. n + length first) c.lead_length.ensures in
     record { area = written; reply = ap (λ p. begun p 0) place; holds = record { place = place ∙ opens_at k first; sum = refl; octets = written } }

@@ -2,8 +2,8 @@ use Rattle.std.proofs.Common.{refl}
 use Rattle.stores.proofs.Maps.{new_codes, new_grid}
 use Rattle.stores.proofs.map_store.MapStore.new.Goals as goal
 
-pub invariant-of-result : goal.invariant-of-result
-invariant-of-result c =
+pub invariant_of-result : goal.invariant_of-result
+invariant_of-result c =
     let s = c.args.size in
     (s.allowed, (refl, (refl, (new_codes s.rows s.columns s.allowed, tt))))
 

@@ -4,18 +4,18 @@ use Rattle.stores.specs.Maps.{map_grid}
 use Rattle.stores.proofs.Maps.{map_inserted}
 use Rattle.stores.proofs.map_store.MapStoreScreen.insert_row.Goals as goal
 
-pub invariant-of-self : goal.invariant-of-self
-invariant-of-self c =
+pub invariant_of-self : goal.invariant_of-self
+invariant_of-self c =
     let s = c.args.self.now in
-    let m = map_inserted s.rows s.columns c.args.row s.chars s.marks _ _ s.size c.if-row-rows.false s.chars_long s.marks_long s.held c.insert_row.ensures c.insert-row-2.ensures in
+    let m = map_inserted s.rows s.columns c.args.row s.chars s.marks _ _ s.size c.if-row-rows.false s.chars_long s.marks_long s.held c.insert_row.ensures c.insert_row-2.ensures in
     let chars : length c.insert_row.new.items ≡ 1920 = omega (arith, s.chars_long) in
-    let marks : length c.insert-row-2.new.items ≡ 240 = omega (arith, s.marks_long) in
+    let marks : length c.insert_row-2.new.items ≡ 240 = omega (arith, s.marks_long) in
     (s.size, (chars, (marks, (m.codes, tt))))
 
 pub returns : goal.returns
 returns c =
     let s = c.args.self.now in
-    let m = map_inserted s.rows s.columns c.args.row s.chars s.marks _ _ s.size c.if-row-rows.false s.chars_long s.marks_long s.held c.insert_row.ensures c.insert-row-2.ensures in
+    let m = map_inserted s.rows s.columns c.args.row s.chars s.marks _ _ s.size c.if-row-rows.false s.chars_long s.marks_long s.held c.insert_row.ensures c.insert_row-2.ensures in
     record {
       rest = refl;
       answer = row_done (map_grid s.rows s.columns s.chars s.marks) c.args.row c.if-row-rows.false;

@@ -14,4 +14,4 @@ returns-then-place-self c =
 pub returns : goal.returns
 returns c =
     let s = c.args.self.now in
-    map_read s.rows s.columns s.chars s.marks c.args.place c.mark-at.result (omega arith) c.mark-at.ensures
+    map_read s.rows s.columns s.chars s.marks c.args.place c.mark_at.result (omega arith) c.mark_at.ensures

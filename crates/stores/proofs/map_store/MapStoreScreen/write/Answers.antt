@@ -20,18 +20,18 @@ returns-then-place-self c =
       grid = unwritten_off g c.args.place c.args.code c.args.mark n long (omega arith);
     }
 
-pub invariant-of-self : goal.invariant-of-self
-invariant-of-self c =
+pub invariant_of-self : goal.invariant_of-self
+invariant_of-self c =
     let s = c.args.self.now in
     let n = s.rows * s.columns in
     let p = c.args.place in
     let most = cells_most s.rows s.columns s.size in
     let lc : p < length s.chars = omega (arith, s.chars_long) in
-    let ok : storable c.args.code ≡ true = sym c.if-not-is-storable.ensures in (
+    let ok : storable c.args.code ≡ true = sym c.if-not-is_storable.ensures in (
       s.size,
       (
         length-set s.chars p c.args.code ∙ s.chars_long,
-        (length-set s.marks (p / 8) c.with-mark-byte.result ∙ s.marks_long, (set_codes n s.chars p c.args.code s.held lc ok, tt)),
+        (length-set s.marks (p / 8) c.with_mark-byte.result ∙ s.marks_long, (set_codes n s.chars p c.args.code s.held lc ok, tt)),
       ),
     )
 
@@ -44,9 +44,9 @@ returns c =
     let on : p < n = omega arith in
     let lc : p < length s.chars = omega (arith, s.chars_long) in
     let lm : p / 8 < length s.marks = omega (arith, s.marks_long) in
-    let ok : storable c.args.code ≡ true = sym c.if-not-is-storable.ensures in
+    let ok : storable c.args.code ≡ true = sym c.if-not-is_storable.ensures in
     record {
       rest = refl;
       answer = write_done (map_grid s.rows s.columns s.chars s.marks) p c.args.code (omega (arith, length_table n (cell_at s.chars s.marks))) ok;
-      grid = map_written s.rows s.columns s.chars s.marks p c.args.code c.with-mark-byte.result c.args.mark on lc lm ok c.with-mark-byte.ensures;
+      grid = map_written s.rows s.columns s.chars s.marks p c.args.code c.with_mark-byte.result c.args.mark on lc lm ok c.with_mark-byte.ensures;
     }

@@ -6,17 +6,17 @@ use Rattle.screen.proofs.Cells.{space_storable}
 use Rattle.stores.proofs.Words.{spaces_in, spaces_grid, spaces_rest}
 use Rattle.stores.proofs.word_store.WordStore.new.Goals as goal
 
-pub invariant-of-result : goal.invariant-of-result
-invariant-of-result c =
+pub invariant_of-result : goal.invariant_of-result
+invariant_of-result c =
     let n = c.args.size.rows * c.args.size.columns in
-    let e : c.fill.new.items ≡ paste c.args.area.now 0 (replicate n SPACE) n = c.fill.ensures ∙ ap (λ x. paste c.args.area.now 0 (replicate n x) n) c.word-of.ensures in
+    let e : c.fill.new.items ≡ paste c.args.area.now 0 (replicate n SPACE) n = c.fill.ensures ∙ ap (λ x. paste c.args.area.now 0 (replicate n x) n) c.word_of.ensures in
     let room : n ≤ length c.fill.new.items = omega (arith, c.requires) in
     (c.args.size.allowed, (room, (λ k b. ap (λ x. storable (x % 256)) (spaces_in n c.args.area.now c.fill.new.items c.requires e k b) ∙ space_storable, tt)))
 
 pub returns : goal.returns
 returns c =
     let n = c.args.size.rows * c.args.size.columns in
-    let e : c.fill.new.items ≡ paste c.args.area.now 0 (replicate n SPACE) n = c.fill.ensures ∙ ap (λ x. paste c.args.area.now 0 (replicate n x) n) c.word-of.ensures in
+    let e : c.fill.new.items ≡ paste c.args.area.now 0 (replicate n SPACE) n = c.fill.ensures ∙ ap (λ x. paste c.args.area.now 0 (replicate n x) n) c.word_of.ensures in
     record {
       area = refl;
       grid = spaces_grid c.args.size.rows c.args.size.columns c.fill.new.items (omega (arith, c.requires)) (spaces_in n c.args.area.now c.fill.new.items c.requires e);

@@ -23,8 +23,8 @@ returns-then-from-end c =
     let off = copy_off g c.args.to c.args.from n (length_cells_in n s.words.now s.room) (inr c.if-from-end.true) in
     record { rest = refl; answer = sym (ap done_if off); grid = uncopied g c.args.to c.args.from off }
 
-pub invariant-of-self : goal.invariant-of-self
-invariant-of-self c =
+pub invariant_of-self : goal.invariant_of-self
+invariant_of-self c =
     let s = c.args.self.now in
     let n = s.rows * s.columns in
     let ws = s.words.now in

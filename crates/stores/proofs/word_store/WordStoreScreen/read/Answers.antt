@@ -15,4 +15,4 @@ pub returns : goal.returns
 returns c =
     let s = c.args.self.now in
     let F : ℕ × Bool → Result (ℕ × Bool) Refusal = λ x. Ok x in
-    ap F c.parts-of.ensures ∙ word_read s.rows s.columns s.words.now c.args.place s.room c.if-place-self.false
+    ap F c.parts_of.ensures ∙ word_read s.rows s.columns s.words.now c.args.place s.room c.if-place-self.false

@@ -19,27 +19,27 @@ returns-then-place-self c =
       grid = unwritten_off g c.args.place c.args.code c.args.mark n long (omega arith);
     }
 
-pub invariant-of-self : goal.invariant-of-self
-invariant-of-self c =
+pub invariant_of-self : goal.invariant_of-self
+invariant_of-self c =
     let s = c.args.self.now in
     let n = s.rows * s.columns in
     let ws = s.words.now in
-    let v = c.word-of.result in
-    let ok : storable c.args.code ≡ true = sym c.if-not-is-storable.ensures in
+    let v = c.word_of.result in
+    let ok : storable c.args.code ≡ true = sym c.if-not-is_storable.ensures in
     let room : n ≤ length (set ws c.args.place v) = omega (arith, s.room, length-set ws c.args.place v) in
-    (s.size, (room, (set_storable n ws c.args.place v s.room (omega arith) (word_storable c.args.code v c.args.mark (omega arith) ok c.word-of.ensures) s.held, tt)))
+    (s.size, (room, (set_storable n ws c.args.place v s.room (omega arith) (word_storable c.args.code v c.args.mark (omega arith) ok c.word_of.ensures) s.held, tt)))
 
 pub returns : goal.returns
 returns c =
     let s = c.args.self.now in
     let n = s.rows * s.columns in
     let ws = s.words.now in
-    let v = c.word-of.result in
+    let v = c.word_of.result in
     let p = c.args.place in
     let on : p < n = omega arith in
-    let ok : storable c.args.code ≡ true = sym c.if-not-is-storable.ensures in
+    let ok : storable c.args.code ≡ true = sym c.if-not-is_storable.ensures in
     record {
       rest = cc (drop-set-lt n ws p v on);
       answer = write_done (word_grid s.rows s.columns ws) p c.args.code (omega (arith, length_cells_in n ws s.room)) ok;
-      grid = word_written s.rows s.columns ws p c.args.code v c.args.mark s.room on (omega arith) ok c.word-of.ensures;
+      grid = word_written s.rows s.columns ws p c.args.code v c.args.mark s.room on (omega arith) ok c.word_of.ensures;
     }

@@ -8,12 +8,12 @@ use Rattle.terminal.proofs.terminal.Terminal.lawful_octet.Goals as goal
 
 pub returns : goal.returns
 returns g c =
-    let e = c.step-octet.ensures in
+    let e = c.step_octet.ensures in
     let m = g.met.L.Line in
     let id = c.args.self.now.identity in
     let before = c.args.area.now in
     let s = state_of g.L.Line.wants g.S.Screen.grid c.args.self.now in
-    let t = state_of g.L.Line.wants g.S.Screen.grid c.step-octet.new.self in
+    let t = state_of g.L.Line.wants g.S.Screen.grid c.step_octet.new.self in
     record {
       screen = e.screen;
       rest = e.rest;
@@ -22,6 +22,6 @@ returns g c =
       area = e.area;
       after = e.after;
       law =
-          follows g.L.Line.kind m.back m.detects m.range id (octet c.args.octet (length before)) s (seen_octet c.step-octet.result c.step-octet.new.area t)
-          (octet_seen g.L.Line.kind id c.args.octet before s c.step-octet.result c.step-octet.new.area t e.answer e.area e.after);
+          follows g.L.Line.kind m.back m.detects m.range id (octet c.args.octet (length before)) s (seen_octet c.step_octet.result c.step_octet.new.area t)
+          (octet_seen g.L.Line.kind id c.args.octet before s c.step_octet.result c.step_octet.new.area t e.answer e.area e.after);
     }

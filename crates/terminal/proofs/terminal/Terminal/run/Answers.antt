@@ -30,8 +30,8 @@ loop-event-preserved g c =
     let same : at (length c.loop-event.area) c.loop-event.self.identity ≡ at room id = ap (λ n. at n c.loop-event.self.identity) c.loop-event.auto.area ∙ ap (at room) inv.4 in
     let more : map (event_of room) (take (i + 1) events) ≡ map (event_of room) (take i events) ++ (event_of room event ∷ []) =
     ap (map (event_of room)) (take_more events i (Key 0) c.loop-event-test.true) ∙ map_push (event_of room) (take i events) event in (
-      c.push-reserved.ensures.len ∙ ap (λ n. n + 1) inv.0,
-      omega (arith, c.push-reserved.ensures.capacity, inv.1),
+      c.push_reserved.ensures.len ∙ ap (λ n. n + 1) inv.0,
+      omega (arith, c.push_reserved.ensures.capacity, inv.1),
       e.screen ∙ inv.2,
       e.rest ∙ inv.3,
       e.identity ∙ inv.4,
@@ -40,7 +40,7 @@ loop-event-preserved g c =
           (e.area ∙ ap (λ (o : Outcome Refusal State). over o.reply c.loop-event.area) same)
           (e.after ∙ ap (λ (o : Outcome Refusal State). o.after) same)
           more
-          c.push-reserved.ensures.items,
+          c.push_reserved.ensures.items,
     )
 
 pub returns : goal.returns

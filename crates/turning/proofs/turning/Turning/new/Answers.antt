@@ -3,11 +3,11 @@ use Rattle.turning.specs.Order.{turned, Permutes, natural_permutes}
 use Rattle.turning.proofs.Turned.{fitted_own, turned_natural}
 use Rattle.turning.proofs.turning.Turning.new.Goals as goal
 
-pub invariant-of-result : goal.invariant-of-result
-invariant-of-result g c =
+pub invariant_of-result : goal.invariant_of-result
+invariant_of-result g c =
     let b = c.args.below.now in
-    let o = c.natural-order-order.result in
-    let e = c.natural-order-order.ensures in
+    let o = c.natural_order-order.result in
+    let e = c.natural_order-order.ensures in
     let P : List ℕ → Type 0 = λ x. Permutes x o.rows in
     (subst P (sym e.at) (natural_permutes o.rows (omega (arith, e.rows, c.rows-rows.ensures, (g.S.Screen.sound b).row_most))), tt)
 
@@ -15,8 +15,8 @@ pub returns : goal.returns
 returns g c =
     let b = c.args.below.now in
     let G = g.S.Screen.grid b in
-    let o = c.natural-order-order.result in
-    let e = c.natural-order-order.ensures in
+    let o = c.natural_order-order.result in
+    let e = c.natural_order-order.ensures in
     record {
       name = refl;
       below = refl;

@@ -5,8 +5,8 @@ use Rattle.turning.specs.Order.{turned_by, Permutes}
 use Rattle.turning.proofs.Turned.{Reads, reads_permutes, row_below_on, clear_through}
 use Rattle.turning.proofs.turning.TurningScreen.clear_row.Goals as goal
 
-pub row-below-requires : goal.row-below-requires
-row-below-requires g c =
+pub row_below-requires : goal.row_below-requires
+row_below-requires g c =
     let t = c.args.self.now in
     let G = g.S.Screen.grid t.below.now in
     let o = c.fitting-order.result in
@@ -31,10 +31,10 @@ returns g c =
     let m : Reads at n q o.at o.rows G =
     record { order = c.fitting-order.ensures.at; count = c.fitting-order.ensures.rows; rows = c.rows-rows.ensures } in
     let e = c.clear_row.ensures in
-    let f = c.row-below.result in
+    let f = c.row_below.result in
     let l = c.if-row-rows.false in
     record {
       rest = cc e.rest;
-      answer = e.answer ∙ ap done_if (rows_on G G.rows f r refl (row_below_on at o.at n q o.rows G r f t.ordered s m l c.row-below.ensures) (omega (arith, m.rows)));
-      grid = ap (turned_by at n) e.grid ∙ clear_through at o.at n q o.rows G r f t.ordered s m l c.row-below.ensures;
+      answer = e.answer ∙ ap done_if (rows_on G G.rows f r refl (row_below_on at o.at n q o.rows G r f t.ordered s m l c.row_below.ensures) (omega (arith, m.rows)));
+      grid = ap (turned_by at n) e.grid ∙ clear_through at o.at n q o.rows G r f t.ordered s m l c.row_below.ensures;
     }

@@ -7,11 +7,11 @@ use Rattle.turning.specs.Order.{under, fitted, turned_by}
 use Rattle.turning.proofs.Through.{into}
 use Rattle.turning.proofs.turning.TurningScreen.write.Goals as goal
 
-pub returns-in-err-to : goal.returns-in-err-to
-returns-in-err-to g c =
+pub returns-in_err-to : goal.returns-in_err-to
+returns-in_err-to g c =
     let t = c.args.self.now in
     let T = turned_by t.order.at t.order.rows (g.S.Screen.grid t.below.now) in
-    let off = not_found T c.args.place _ c.in-err-to.field-0.0 c.in-err-to.ensures in
+    let off = not_found T c.args.place _ c.in_err-to.field-0.0 c.in_err-to.ensures in
     let p = err_from_is_err_and c.from-residual.result c.from-residual.ensures.1 in
     let r : c.from-residual.result ≡ Err OffScreen = cc (p.1, p.2, off.1) in
     record {
@@ -29,8 +29,8 @@ returns g c =
     let f = under (fitted t.order.at t.order.rows G.rows) G.columns in
     let i = into t.order.at t.order.rows G t.ordered s in
     let e = c.write.ensures in
-    let to = c.in-ok-to.to in
-    let found = c.in-ok-to.ensures in
+    let to = c.in_ok-to.to in
+    let found = c.in_ok-to.ensures in
     record {
       rest = cc e.rest;
       answer = e.answer ∙ ap done_if (writable_through f _ _ G c.args.place to c.args.code i found);

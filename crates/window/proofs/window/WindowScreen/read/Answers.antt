@@ -6,11 +6,11 @@ use Rattle.window.specs.Part.{corner, windowed}
 use Rattle.window.proofs.Edges.{into}
 use Rattle.window.proofs.window.WindowScreen.read.Goals as goal
 
-pub returns-in-err-from : goal.returns-in-err-from
-returns-in-err-from g c =
+pub returns-in_err-from : goal.returns-in_err-from
+returns-in_err-from g c =
     let t = c.args.self.now in
     let T = windowed t.rows t.columns (g.S.Screen.grid t.below.now) in
-    let off = not_found T c.args.place _ c.in-err-from.field-0.0 c.in-err-from.ensures in
+    let off = not_found T c.args.place _ c.in_err-from.field-0.0 c.in_err-from.ensures in
     let p = err_from_is_err_and c.from-residual.result c.from-residual.ensures.1 in
     let r : c.from-residual.result ≡ Err OffScreen = cc (p.1, p.2, off.1) in
     r ∙ read_off T c.args.place (length T.cells) refl off.0
@@ -21,4 +21,4 @@ returns g c =
     let b = t.below.now in
     let G = g.S.Screen.grid b in
     c.read.ensures
-    ∙ read_through (corner G.columns (min t.columns G.columns)) _ _ G c.args.place c.in-ok-from.from (into t.rows t.columns G t.column_least (g.S.Screen.sound b)) c.in-ok-from.ensures
+    ∙ read_through (corner G.columns (min t.columns G.columns)) _ _ G c.args.place c.in_ok-from.from (into t.rows t.columns G t.column_least (g.S.Screen.sound b)) c.in_ok-from.ensures

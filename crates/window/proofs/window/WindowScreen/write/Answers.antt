@@ -7,11 +7,11 @@ use Rattle.window.specs.Part.{corner, windowed, outside}
 use Rattle.window.proofs.Edges.{into, outside_written}
 use Rattle.window.proofs.window.WindowScreen.write.Goals as goal
 
-pub returns-in-err-to : goal.returns-in-err-to
-returns-in-err-to g c =
+pub returns-in_err-to : goal.returns-in_err-to
+returns-in_err-to g c =
     let t = c.args.self.now in
     let T = windowed t.rows t.columns (g.S.Screen.grid t.below.now) in
-    let off = not_found T c.args.place _ c.in-err-to.field-0.0 c.in-err-to.ensures in
+    let off = not_found T c.args.place _ c.in_err-to.field-0.0 c.in_err-to.ensures in
     let p = err_from_is_err_and c.from-residual.result c.from-residual.ensures.1 in
     let r : c.from-residual.result ≡ Err OffScreen = cc (p.1, p.2, off.1) in
     record {
@@ -29,8 +29,8 @@ returns g c =
     let f = corner G.columns (min t.columns G.columns) in
     let i = into t.rows t.columns G t.column_least s in
     let e = c.write.ensures in
-    let to = c.in-ok-to.to in
-    let found = c.in-ok-to.ensures in
+    let to = c.in_ok-to.to in
+    let found = c.in_ok-to.ensures in
     let out = ap (outside t.rows t.columns) e.grid ∙ outside_written t.rows t.columns G c.args.place to c.args.code c.args.mark t.column_least s found in
     record {
       rest = cc (e.rest, out);
