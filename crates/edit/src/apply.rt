@@ -12,9 +12,9 @@ use screen::interface::Screen;
 
 // Changes cells at the cursor.
 fn change_cells<S: Screen>(screen: &mut S, cursor: usize, change: Change)
-    requires { cursor < size (grid screen.old) }
-    ensures rest { rest screen.new ≡ rest screen.old }
-    ensures grid { grid screen.new ≡ redrawn change (view (grid screen.old) cursor) }
+    requires { cursor < size (S.grid screen.old) }
+    ensures rest { S.rest screen.new ≡ S.rest screen.old }
+    ensures grid { S.grid screen.new ≡ redrawn change (view (S.grid screen.old) cursor) }
 {
     let columns = screen.columns();
     let left = cell_count(screen) - cursor;
@@ -44,8 +44,8 @@ fn change_cells<S: Screen>(screen: &mut S, cursor: usize, change: Change)
 
 // Carries out an edit, and answers where the cursor is then.
 pub fn apply<S: Screen>(screen: &mut S, cursor: usize, edit: Edit) -> usize
-    ensures rest { rest screen.new ≡ rest screen.old }
-    ensures view { view (grid screen.new) result ≡ edited edit (at (grid screen.old) cursor) }
+    ensures rest { S.rest screen.new ≡ S.rest screen.old }
+    ensures view { view (S.grid screen.new) result ≡ edited edit (at (S.grid screen.old) cursor) }
 {
     let place = on_screen(screen, cursor);
     match edit {
@@ -59,7 +59,7 @@ pub fn apply<S: Screen>(screen: &mut S, cursor: usize, edit: Edit) -> usize
 
 // Where an address takes the cursor: its row and column count from 0, and off the screen there is no move.
 pub fn move_to<S: Screen>(screen: &S, cursor: usize, row: u8, column: u8) -> usize
-    ensures { view (grid screen.now) result ≡ addressed row column (at (grid screen.now) cursor) }
+    ensures { view (S.grid screen.now) result ≡ addressed row column (at (S.grid screen.now) cursor) }
 {
     match screen.place(row as usize, column as usize) {
         Ok(place) => place,

@@ -18,8 +18,8 @@ pub(crate) fn round(place: usize, count: usize) -> usize
 
 // The first tab stop at or after the cursor, or else the number of cells.
 fn next_stop<S: Screen>(screen: &S, cursor: usize) -> usize
-    requires { cursor < size (grid screen.now) }
-    ensures { result ≡ stop_from (view (grid screen.now) cursor) }
+    requires { cursor < size (S.grid screen.now) }
+    ensures { result ≡ stop_from (view (S.grid screen.now) cursor) }
 {
     let end = cell_count(screen);
     let mut at = cursor;
@@ -31,8 +31,8 @@ fn next_stop<S: Screen>(screen: &S, cursor: usize) -> usize
 
 // Where a move takes the cursor.
 pub(crate) fn move_cursor<S: Screen>(screen: &S, cursor: usize, motion: Motion) -> usize
-    requires { cursor < size (grid screen.now) }
-    ensures { result ≡ moved motion (view (grid screen.now) cursor) }
+    requires { cursor < size (S.grid screen.now) }
+    ensures { result ≡ moved motion (view (S.grid screen.now) cursor) }
 {
     let end = cell_count(screen);
     let columns = screen.columns();

@@ -11,8 +11,8 @@ use screen::interface::Screen;
 
 // How many open cells stand in a row from a place on, before the end.
 fn open_cells<S: Screen>(screen: &S, from: usize, end: usize) -> usize
-    requires { (from ≤ end) × (end ≤ size (grid screen.now)) }
-    ensures { result ≡ prefix_len is_open (take (end - from) (drop from (grid screen.now).cells)) }
+    requires { (from ≤ end) × (end ≤ size (S.grid screen.now)) }
+    ensures { result ≡ prefix_len is_open (take (end - from) (drop from (S.grid screen.now).cells)) }
 {
     let mut at = from;
     while at < end && !cell_at(screen, at).1 {
@@ -23,9 +23,9 @@ fn open_cells<S: Screen>(screen: &S, from: usize, end: usize) -> usize
 
 // How many cells the run at the cursor has.
 pub(crate) fn run_length<S: Screen>(screen: &S, cursor: usize, reach: Reach) -> usize
-    requires { cursor < size (grid screen.now) }
-    ensures value { result ≡ run reach (view (grid screen.now) cursor) }
-    ensures within { cursor + result ≤ size (grid screen.now) }
+    requires { cursor < size (S.grid screen.now) }
+    ensures value { result ≡ run reach (view (S.grid screen.now) cursor) }
+    ensures within { cursor + result ≤ size (S.grid screen.now) }
 {
     match reach {
         Reach::Row => {
@@ -38,9 +38,9 @@ pub(crate) fn run_length<S: Screen>(screen: &S, cursor: usize, reach: Reach) -> 
 
 // Makes so many cells open spaces.
 pub(crate) fn erase<S: Screen>(screen: &mut S, from: usize, count: usize)
-    requires { from + count ≤ size (grid screen.old) }
-    ensures rest { rest screen.new ≡ rest screen.old }
-    ensures grid { grid screen.new ≡ redraw (grid screen.old) from count erased }
+    requires { from + count ≤ size (S.grid screen.old) }
+    ensures rest { S.rest screen.new ≡ S.rest screen.old }
+    ensures grid { S.grid screen.new ≡ redraw (S.grid screen.old) from count erased }
 {
     let end = from + count;
     for k in from..end {
@@ -50,9 +50,9 @@ pub(crate) fn erase<S: Screen>(screen: &mut S, from: usize, count: usize)
 
 // Makes the open ones among so many cells spaces.
 pub(crate) fn erase_open<S: Screen>(screen: &mut S, from: usize, count: usize)
-    requires { from + count ≤ size (grid screen.old) }
-    ensures rest { rest screen.new ≡ rest screen.old }
-    ensures grid { grid screen.new ≡ redraw (grid screen.old) from count open_erased }
+    requires { from + count ≤ size (S.grid screen.old) }
+    ensures rest { S.rest screen.new ≡ S.rest screen.old }
+    ensures grid { S.grid screen.new ≡ redraw (S.grid screen.old) from count open_erased }
 {
     let end = from + count;
     for k in from..end {
@@ -64,9 +64,9 @@ pub(crate) fn erase_open<S: Screen>(screen: &mut S, from: usize, count: usize)
 
 // Deletes the first of so many cells, and adds a space behind the last.
 pub(crate) fn delete<S: Screen>(screen: &mut S, from: usize, count: usize)
-    requires { from + count ≤ size (grid screen.old) }
-    ensures rest { rest screen.new ≡ rest screen.old }
-    ensures grid { grid screen.new ≡ redraw (grid screen.old) from count deleted }
+    requires { from + count ≤ size (S.grid screen.old) }
+    ensures rest { S.rest screen.new ≡ S.rest screen.old }
+    ensures grid { S.grid screen.new ≡ redraw (S.grid screen.old) from count deleted }
 {
     let end = from + count;
     for k in from..end {
@@ -81,9 +81,9 @@ pub(crate) fn delete<S: Screen>(screen: &mut S, from: usize, count: usize)
 
 // Puts a space before so many cells, and loses the last.
 pub(crate) fn insert<S: Screen>(screen: &mut S, from: usize, count: usize)
-    requires { from + count ≤ size (grid screen.old) }
-    ensures rest { rest screen.new ≡ rest screen.old }
-    ensures grid { grid screen.new ≡ redraw (grid screen.old) from count pushed }
+    requires { from + count ≤ size (S.grid screen.old) }
+    ensures rest { S.rest screen.new ≡ S.rest screen.old }
+    ensures grid { S.grid screen.new ≡ redraw (S.grid screen.old) from count pushed }
 {
     let end = from + count;
     let mut before = (SPACE, false);

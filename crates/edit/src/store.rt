@@ -9,8 +9,8 @@ use screen::interface::Screen;
 
 // The first open cell at or after a place, or else the number of cells.
 fn open_from<S: Screen>(screen: &S, from: usize) -> usize
-    requires { from ≤ size (grid screen.now) }
-    ensures { result ≡ open_from (grid screen.now) from }
+    requires { from ≤ size (S.grid screen.now) }
+    ensures { result ≡ open_from (S.grid screen.now) from }
 {
     let end = cell_count(screen);
     let mut at = from;
@@ -22,8 +22,8 @@ fn open_from<S: Screen>(screen: &S, from: usize) -> usize
 
 // The same, going round.
 fn first_open<S: Screen>(screen: &S, from: usize) -> usize
-    requires { from ≤ size (grid screen.now) }
-    ensures { result ≡ first_open (grid screen.now) from }
+    requires { from ≤ size (S.grid screen.now) }
+    ensures { result ≡ first_open (S.grid screen.now) from }
 {
     let found = open_from(screen, from);
     if found < cell_count(screen) {
@@ -35,9 +35,9 @@ fn first_open<S: Screen>(screen: &S, from: usize) -> usize
 
 // The same, if any cell is open.
 fn next_open<S: Screen>(screen: &S, from: usize) -> Option<usize>
-    requires { from ≤ size (grid screen.now) }
-    ensures value { result ≡ (if any_open (grid screen.now) then Some (first_open (grid screen.now) from) else None) }
-    ensures on { IfSome result (λ place. place < size (grid screen.now)) }
+    requires { from ≤ size (S.grid screen.now) }
+    ensures value { result ≡ (if any_open (S.grid screen.now) then Some (first_open (S.grid screen.now) from) else None) }
+    ensures on { IfSome result (λ place. place < size (S.grid screen.now)) }
 {
     let found = first_open(screen, from);
     if found < cell_count(screen) {
@@ -49,7 +49,7 @@ fn next_open<S: Screen>(screen: &S, from: usize) -> Option<usize>
 
 // Whether any cell is open. The search begins at the cursor, where one is likely.
 pub fn any_open<S: Screen>(screen: &S, cursor: usize) -> bool
-    ensures { result ≡ any_open (grid screen.now) }
+    ensures { result ≡ any_open (S.grid screen.now) }
 {
     match next_open(screen, on_screen(screen, cursor)) {
         Some(_) => true,
@@ -60,9 +60,9 @@ pub fn any_open<S: Screen>(screen: &S, cursor: usize) -> bool
 // Stores a character in the first open cell at or after the cursor and answers the place of the next one, both going
 // round; none where every cell is protected, and then nothing is stored.
 pub fn store<S: Screen>(screen: &mut S, cursor: usize, code: u8) -> Option<usize>
-    ensures rest { rest screen.new ≡ rest screen.old }
-    ensures answer { result ≡ (if any_open (grid screen.old) then Some (stored code (at (grid screen.old) cursor)).cursor else None) }
-    ensures grid { grid screen.new ≡ (if any_open (grid screen.old) then (stored code (at (grid screen.old) cursor)).grid else grid screen.old) }
+    ensures rest { S.rest screen.new ≡ S.rest screen.old }
+    ensures answer { result ≡ (if any_open (S.grid screen.old) then Some (stored code (at (S.grid screen.old) cursor)).cursor else None) }
+    ensures grid { S.grid screen.new ≡ (if any_open (S.grid screen.old) then (stored code (at (S.grid screen.old) cursor)).grid else S.grid screen.old) }
 {
     let count = cell_count(screen);
     let place = next_open(screen, on_screen(screen, cursor))?;

@@ -9,9 +9,9 @@ use screen::interface::Screen;
 
 // Writes characters from a place of the screen on.
 fn write_from<S: Screen>(screen: &mut S, from: usize, run: &[u8], protected: bool) -> usize
-    requires { from < size (grid screen.old) }
-    ensures rest { rest screen.new ≡ rest screen.old }
-    ensures view { view (grid screen.new) result ≡ typed_run protected run.now (view (grid screen.old) from) }
+    requires { from < size (S.grid screen.old) }
+    ensures rest { S.rest screen.new ≡ S.rest screen.old }
+    ensures view { view (S.grid screen.new) result ≡ typed_run protected run.now (view (S.grid screen.old) from) }
 {
     let count = cell_count(screen);
     let mut place = from;
@@ -24,8 +24,8 @@ fn write_from<S: Screen>(screen: &mut S, from: usize, run: &[u8], protected: boo
 
 // Writes characters over any cells from the cursor on, going round, and answers where the cursor is then.
 pub fn write_run<S: Screen>(screen: &mut S, cursor: usize, run: &[u8], protected: bool) -> usize
-    ensures rest { rest screen.new ≡ rest screen.old }
-    ensures view { view (grid screen.new) result ≡ typed_run protected run.now (at (grid screen.old) cursor) }
+    ensures rest { S.rest screen.new ≡ S.rest screen.old }
+    ensures view { view (S.grid screen.new) result ≡ typed_run protected run.now (at (S.grid screen.old) cursor) }
 {
     let place = on_screen(screen, cursor);
     write_from(screen, place, run, protected)

@@ -24,7 +24,7 @@ pub(crate) fn place_below<S: Screen>(
     place: usize,
 ) -> Result<usize, Refusal>
     requires { Permutes order.at order.rows }
-    ensures { result ≡ on_screen (has_place (turned_by order.at order.rows (grid below.now)) place) (under (fitted order.at order.rows (grid below.now).rows) (grid below.now).columns place) }
+    ensures { result ≡ on_screen (has_place (turned_by order.at order.rows (S.grid below.now)) place) (under (fitted order.at order.rows (S.grid below.now).rows) (S.grid below.now).columns place) }
 {
     let (row, column) = below.split(place)?;
     let rows = below.rows();

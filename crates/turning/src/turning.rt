@@ -22,7 +22,7 @@ impl<'s, S: Screen> Turning<'s, S> {
     pub fn new(below: &'s mut S) -> Turning<'s, S>
         ensures name { result.below.ghost_name ≡ below.entry.ghost_name }
         ensures below { result.below.now ≡ below.old }
-        ensures grid { turned_by result.order.at result.order.rows (grid result.below.now) ≡ grid below.old }
+        ensures grid { turned_by result.order.at result.order.rows (S.grid result.below.now) ≡ S.grid below.old }
     {
         let rows = below.rows();
         let order = natural_order(rows);
@@ -76,10 +76,10 @@ impl<'s, S: Screen> Screen for Turning<'s, S> {
 
     // moves no cell: the row below that is freed becomes the last row
     fn remove_row(&mut self, row: usize) -> Result<(), Refusal>
-        ensures rest { ◌≡◌ {A = GName × S.Screen.Rest} (self.new.below.ghost_name, rest self.new.below.now) (self.old.below.ghost_name, rest self.old.below.now) }
-        ensures answer { result ≡ done_if (has_row (grid self.old.below.now) row) }
-        ensures grid { turned_by self.new.order.at self.new.order.rows (grid self.new.below.now) ≡ removed (turned_by self.old.order.at self.old.order.rows (grid self.old.below.now)) row }
-        ensures below { grid self.new.below.now ≡ freed_below self.old.order.at self.old.order.rows (grid self.old.below.now) row row }
+        ensures rest { ◌≡◌ {A = GName × S.Screen.Rest} (self.new.below.ghost_name, S.rest self.new.below.now) (self.old.below.ghost_name, S.rest self.old.below.now) }
+        ensures answer { result ≡ done_if (has_row (S.grid self.old.below.now) row) }
+        ensures grid { turned_by self.new.order.at self.new.order.rows (S.grid self.new.below.now) ≡ removed (turned_by self.old.order.at self.old.order.rows (S.grid self.old.below.now)) row }
+        ensures below { S.grid self.new.below.now ≡ freed_below self.old.order.at self.old.order.rows (S.grid self.old.below.now) row row }
     {
         let rows = self.below.rows();
         if row >= rows {
@@ -93,10 +93,10 @@ impl<'s, S: Screen> Screen for Turning<'s, S> {
 
     // moves no cell: the row below that the last row showed becomes the new one
     fn insert_row(&mut self, row: usize) -> Result<(), Refusal>
-        ensures rest { ◌≡◌ {A = GName × S.Screen.Rest} (self.new.below.ghost_name, rest self.new.below.now) (self.old.below.ghost_name, rest self.old.below.now) }
-        ensures answer { result ≡ done_if (has_row (grid self.old.below.now) row) }
-        ensures grid { turned_by self.new.order.at self.new.order.rows (grid self.new.below.now) ≡ inserted (turned_by self.old.order.at self.old.order.rows (grid self.old.below.now)) row }
-        ensures below { grid self.new.below.now ≡ freed_below self.old.order.at self.old.order.rows (grid self.old.below.now) row ((grid self.old.below.now).rows - 1) }
+        ensures rest { ◌≡◌ {A = GName × S.Screen.Rest} (self.new.below.ghost_name, S.rest self.new.below.now) (self.old.below.ghost_name, S.rest self.old.below.now) }
+        ensures answer { result ≡ done_if (has_row (S.grid self.old.below.now) row) }
+        ensures grid { turned_by self.new.order.at self.new.order.rows (S.grid self.new.below.now) ≡ inserted (turned_by self.old.order.at self.old.order.rows (S.grid self.old.below.now)) row }
+        ensures below { S.grid self.new.below.now ≡ freed_below self.old.order.at self.old.order.rows (S.grid self.old.below.now) row ((S.grid self.old.below.now).rows - 1) }
     {
         let rows = self.below.rows();
         if row >= rows {

@@ -16,7 +16,7 @@ pub(crate) fn place_below<S: Screen>(
 ) -> Result<usize, Refusal>
     requires few { rows ≤ 24 }
     requires some { 1 ≤ columns }
-    ensures { result ≡ on_screen (has_place (windowed rows columns (grid below.now)) place) (corner (grid below.now).columns (min columns (grid below.now).columns) place) }
+    ensures { result ≡ on_screen (has_place (windowed rows columns (S.grid below.now)) place) (corner (S.grid below.now).columns (min columns (S.grid below.now).columns) place) }
 {
     let height = rows.min(below.rows());
     let width = columns.min(below.columns());

@@ -19,7 +19,7 @@ pub struct Extent {
 impl Extent {
     // A size from 2 × 1 up to that of the screen below, or the refusal 14.
     pub fn within<S: Screen>(below: &S, rows: usize, columns: usize) -> Result<Extent, Refusal>
-        ensures { MatchResult result (λ e. (fits_in rows columns (grid below.now) ≡ true) × (e.rows ≡ rows) × (e.columns ≡ columns)) (λ e. (fits_in rows columns (grid below.now) ≡ false) × (e ≡ WrongSize)) }
+        ensures { MatchResult result (λ e. (fits_in rows columns (S.grid below.now) ≡ true) × (e.rows ≡ rows) × (e.columns ≡ columns)) (λ e. (fits_in rows columns (S.grid below.now) ≡ false) × (e ≡ WrongSize)) }
     {
         let height = below.rows();
         let width = below.columns();

@@ -21,8 +21,8 @@ pub returns-in_err-row : goal.returns-in_err-row
 returns-in_err-row g c =
     let G = g.S.Screen.grid c.args.below.now in
     let F : Refusal → Result ℕ Refusal = λ y. Err y in
-    let p = err_from_is_err_and c.from-residual.result c.from-residual.ensures.1 in
-    let r : c.from-residual.result ≡ F c.in_err-row.field-0.0 = cc (p.1, p.2) in
+    let p = err_from_is_err_and c.from_residual.result c.from_residual.ensures.1 in
+    let r : c.from_residual.result ≡ F c.in_err-row.field-0.0 = cc (p.1, p.2) in
     r ∙ off_through c.args.order.at c.args.order.rows G c.args.place _ c.in_err-row.field-0.0 (g.S.Screen.sound c.args.below.now) c.in_err-row.ensures
 
 pub returns : goal.returns

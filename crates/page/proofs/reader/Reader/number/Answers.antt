@@ -20,7 +20,7 @@ pub returns-in_err-number : goal.returns-in_err-number
 returns-in_err-number c =
     let r = rest_of c.args.self.now in
     let part = take_rest c.args.self.now.octets.now c.args.self.now.place in
-    let p = err_from_is_err_and c.from-residual.result c.from-residual.ensures.1 in
+    let p = err_from_is_err_and c.from_residual.result c.from_residual.ensures.1 in
     let e : first_number r ≡ Err c.in_err-number.field-0.0 = ap first_number (sym part) ∙ c.in_err-number.ensures in
     record {
       answer = p.1 ∙ ap Err p.2 ∙ sym (ap told e);

@@ -6,7 +6,7 @@ use Rattle.page.proofs.reader.Reader.skip_cells.Goals as goal
 
 pub returns-in_err-cell : goal.returns-in_err-cell
 returns-in_err-cell c =
-    let p = err_from_is_err_and c.from-residual.result c.from-residual.ensures.1 in
+    let p = err_from_is_err_and c.from_residual.result c.from_residual.ensures.1 in
     rw (p.1, p.2)
     (refused_at c.args.count c.loop.counter (rest_of c.args.self.now) (rest_of c.loop.self) _ c.loop-test.true c.loop.invariant c.in_err-cell.ensures)
 

@@ -10,7 +10,7 @@ invariant_of-self c =
     let m = map_removed s.rows s.columns c.args.row s.chars s.marks _ _ s.size c.if-row-rows.false s.chars_long s.marks_long s.held c.remove_row.ensures c.remove_row-2.ensures in
     let chars : length c.remove_row.new.items ≡ 1920 = omega (arith, s.chars_long) in
     let marks : length c.remove_row-2.new.items ≡ 240 = omega (arith, s.marks_long) in
-    (s.size, (chars, (marks, (m.codes, tt))))
+    record { size = s.size; chars_long = chars; marks_long = marks; held = m.codes }
 
 pub returns : goal.returns
 returns c =

@@ -27,13 +27,7 @@ invariant_of-self c =
     let p = c.args.place in
     let most = cells_most s.rows s.columns s.size in
     let lc : p < length s.chars = omega (arith, s.chars_long) in
-    let ok : storable c.args.code ≡ true = sym c.if-not-is_storable.ensures in (
-      s.size,
-      (
-        length-set s.chars p c.args.code ∙ s.chars_long,
-        (length-set s.marks (p / 8) c.with_mark-byte.result ∙ s.marks_long, (set_codes n s.chars p c.args.code s.held lc ok, tt)),
-      ),
-    )
+    let ok : storable c.args.code ≡ true = sym c.if-not-is_storable.ensures in record { size = s.size; chars_long = length-set s.chars p c.args.code ∙ s.chars_long; marks_long = length-set s.marks (p / 8) c.with_mark-byte.result ∙ s.marks_long; held = set_codes n s.chars p c.args.code s.held lc ok }
 
 pub returns : goal.returns
 returns c =

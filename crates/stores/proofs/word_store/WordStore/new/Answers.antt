@@ -11,7 +11,7 @@ invariant_of-result c =
     let n = c.args.size.rows * c.args.size.columns in
     let e : c.fill.new.items ≡ paste c.args.area.now 0 (replicate n SPACE) n = c.fill.ensures ∙ ap (λ x. paste c.args.area.now 0 (replicate n x) n) c.word_of.ensures in
     let room : n ≤ length c.fill.new.items = omega (arith, c.requires) in
-    (c.args.size.allowed, (room, (λ k b. ap (λ x. storable (x % 256)) (spaces_in n c.args.area.now c.fill.new.items c.requires e k b) ∙ space_storable, tt)))
+    record { size = c.args.size.allowed; room = room; held = (λ k b. ap (λ x. storable (x % 256)) (spaces_in n c.args.area.now c.fill.new.items c.requires e k b) ∙ space_storable) }
 
 pub returns : goal.returns
 returns c =

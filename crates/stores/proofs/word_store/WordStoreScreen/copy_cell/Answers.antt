@@ -30,7 +30,7 @@ invariant_of-self c =
     let ws = s.words.now in
     let v = get_or ws c.args.from 0 in
     let room : n ≤ length (set ws c.args.to v) = omega (arith, s.room, length-set ws c.args.to v) in
-    (s.size, (room, (set_storable n ws c.args.to v s.room c.if-to-end.false (s.held c.args.from c.if-from-end.false) s.held, tt)))
+    record { size = s.size; room = room; held = set_storable n ws c.args.to v s.room c.if-to-end.false (s.held c.args.from c.if-from-end.false) s.held }
 
 pub returns : goal.returns
 returns c =

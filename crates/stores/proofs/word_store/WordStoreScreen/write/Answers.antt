@@ -27,7 +27,7 @@ invariant_of-self c =
     let v = c.word_of.result in
     let ok : storable c.args.code ≡ true = sym c.if-not-is_storable.ensures in
     let room : n ≤ length (set ws c.args.place v) = omega (arith, s.room, length-set ws c.args.place v) in
-    (s.size, (room, (set_storable n ws c.args.place v s.room (omega arith) (word_storable c.args.code v c.args.mark (omega arith) ok c.word_of.ensures) s.held, tt)))
+    record { size = s.size; room = room; held = set_storable n ws c.args.place v s.room (omega arith) (word_storable c.args.code v c.args.mark (omega arith) ok c.word_of.ensures) s.held }
 
 pub returns : goal.returns
 returns c =

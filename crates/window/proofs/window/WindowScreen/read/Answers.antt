@@ -11,8 +11,8 @@ returns-in_err-from g c =
     let t = c.args.self.now in
     let T = windowed t.rows t.columns (g.S.Screen.grid t.below.now) in
     let off = not_found T c.args.place _ c.in_err-from.field-0.0 c.in_err-from.ensures in
-    let p = err_from_is_err_and c.from-residual.result c.from-residual.ensures.1 in
-    let r : c.from-residual.result ≡ Err OffScreen = cc (p.1, p.2, off.1) in
+    let p = err_from_is_err_and c.from_residual.result c.from_residual.ensures.1 in
+    let r : c.from_residual.result ≡ Err OffScreen = cc (p.1, p.2, off.1) in
     r ∙ read_off T c.args.place (length T.cells) refl off.0
 
 pub returns : goal.returns
