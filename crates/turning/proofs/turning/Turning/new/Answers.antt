@@ -9,7 +9,7 @@ invariant_of-result g c =
     let o = c.natural_order-order.result in
     let e = c.natural_order-order.ensures in
     let P : List ℕ → Type 0 = λ x. Permutes x o.rows in
-    (subst P (sym e.at) (natural_permutes o.rows (omega (arith, e.rows, c.rows-rows.ensures, (g.S.Screen.sound b).row_most))), tt)
+    record { ordered = subst P (sym e.at) (natural_permutes o.rows (omega (arith, e.rows, c.rows-rows.ensures, (g.S.Screen.sound b).row_most))) }
 
 pub returns : goal.returns
 returns g c =

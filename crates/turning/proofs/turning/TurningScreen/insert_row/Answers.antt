@@ -29,7 +29,7 @@ invariant_of-self-2 g c =
     let p = reads_permutes t.order.at o.at t.order.rows c.rows-rows.result o.rows G t.ordered (g.S.Screen.sound t.below.now) m in
     let l : c.args.row < o.rows = omega (arith, m.count, c.if-row-rows.false) in
     let P : ℕ → Type 0 = λ x. Permutes y.at x in
-    (subst P (sym c.turned_down-self.ensures.rows) (down_permutes o.at y.at c.args.row o.rows l p c.turned_down-self.ensures.moved), tt)
+    record { ordered = subst P (sym c.turned_down-self.ensures.rows) (down_permutes o.at y.at c.args.row o.rows l p c.turned_down-self.ensures.moved) }
 
 pub returns : goal.returns
 returns g c =
