@@ -35,8 +35,8 @@ fn check<'a>(octets: &'a [u8]) -> Result<Checked<'a>, Refusal>
 
 // Writes the next cell from a reader to a place of the screen.
 fn draw_cell<S: Screen>(cells: &mut Reader, place: usize, screen: &mut S)
-    ensures rest { rest screen.new ≡ rest screen.old }
-    ensures cell { (c : Cell) (os : List ℕ) → cell_in (rest_of cells.old) ≡ Ok (read c os) → (rest_of cells.new ≡ os) × (grid screen.new ≡ written (grid screen.old) place c.code c.protected) }
+    ensures rest { S.rest screen.new ≡ S.rest screen.old }
+    ensures cell { (c : Cell) (os : List ℕ) → cell_in (rest_of cells.old) ≡ Ok (read c os) → (rest_of cells.new ≡ os) × (S.grid screen.new ≡ written (S.grid screen.old) place c.code c.protected) }
 {
     if let Ok((code, mark)) = cells.cell() {
         let _ = screen.write(place, code, mark);
@@ -45,8 +45,8 @@ fn draw_cell<S: Screen>(cells: &mut Reader, place: usize, screen: &mut S)
 
 // Writes so many cells from a reader to the screen, from its first place on.
 fn draw<S: Screen>(mut cells: Reader, count: usize, screen: &mut S)
-    ensures rest { rest screen.new ≡ rest screen.old }
-    ensures grid { (cs : List Cell) → cells_in count (rest_of cells.entry) ≡ Ok (read cs []) → count ≡ length (grid screen.old).cells → grid screen.new ≡ with_cells (grid screen.old) cs }
+    ensures rest { S.rest screen.new ≡ S.rest screen.old }
+    ensures grid { (cs : List Cell) → cells_in count (rest_of cells.entry) ≡ Ok (read cs []) → count ≡ length (S.grid screen.old).cells → S.grid screen.new ≡ with_cells (S.grid screen.old) cs }
 {
     for place in 0..count {
         draw_cell(&mut cells, place, screen);
@@ -55,16 +55,16 @@ fn draw<S: Screen>(mut cells: Reader, count: usize, screen: &mut S)
 
 // Whether the screen has this size.
 fn has_size<S: Screen>(screen: &S, rows: usize, columns: usize) -> bool
-    ensures { result ≡ (rows == (grid screen.now).rows) && (columns == (grid screen.now).columns) }
+    ensures { result ≡ (rows == (S.grid screen.now).rows) && (columns == (S.grid screen.now).columns) }
 {
     rows == screen.rows() && columns == screen.columns()
 }
 
 // Writes the cells of a page to a screen of its size, and answers the cursor place.
 fn show<S: Screen>(page: Checked, screen: &mut S) -> usize
-    requires { (page.header.rows == (grid screen.old).rows) && (page.header.columns == (grid screen.old).columns) ≡ true }
-    ensures rest { rest screen.new ≡ rest screen.old }
-    ensures shown { (os : List ℕ) → Found os page.entry → Shown os (grid screen.old) result (grid screen.new) }
+    requires { (page.header.rows == (S.grid screen.old).rows) && (page.header.columns == (S.grid screen.old).columns) ≡ true }
+    ensures rest { S.rest screen.new ≡ S.rest screen.old }
+    ensures shown { (os : List ℕ) → Found os page.entry → Shown os (S.grid screen.old) result (S.grid screen.new) }
 {
     let count = screen.rows() * screen.columns();
     draw(page.cells, count, screen);
@@ -73,10 +73,10 @@ fn show<S: Screen>(page: Checked, screen: &mut S) -> usize
 
 // Reads a page onto a screen of its size, and answers the cursor place. A refusal changes no cell.
 pub fn read_page<S: Screen>(octets: &[u8], screen: &mut S) -> Result<usize, Refusal>
-    ensures rest { rest screen.new ≡ rest screen.old }
-    ensures grid { grid screen.new ≡ (reads (grid screen.old) octets.now).grid }
-    ensures answer { result ≡ (reads (grid screen.old) octets.now).answer }
-    ensures written_back { IfOk result (λ cursor. octets_at (grid screen.new) cursor ≡ octets.now) }
+    ensures rest { S.rest screen.new ≡ S.rest screen.old }
+    ensures grid { S.grid screen.new ≡ (reads (S.grid screen.old) octets.now).grid }
+    ensures answer { result ≡ (reads (S.grid screen.old) octets.now).answer }
+    ensures written_back { IfOk result (λ cursor. octets_at (S.grid screen.new) cursor ≡ octets.now) }
 {
     let page = check(octets)?;
     if !has_size(screen, page.header.rows, page.header.columns) {

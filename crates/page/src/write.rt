@@ -14,8 +14,8 @@ use screen::interface::Screen;
 
 // The number at a place of the page: 1, rows, columns, cursor, and then those of the cells.
 fn page_number<S: Screen>(screen: &S, cursor: usize, place: usize) -> usize
-    requires { has_place (grid screen.now) cursor ≡ true }
-    ensures number { result ≡ slice_index_or (page_numbers (page_at (grid screen.now) cursor)) place 32 }
+    requires { has_place (S.grid screen.now) cursor ≡ true }
+    ensures number { result ≡ slice_index_or (page_numbers (page_at (S.grid screen.now) cursor)) place 32 }
     ensures small { result < 2 ^ 14 }
 {
     match place {
@@ -29,7 +29,7 @@ fn page_number<S: Screen>(screen: &S, cursor: usize, place: usize) -> usize
 
 // A cell's number.
 fn cell_number<S: Screen>(screen: &S, place: usize) -> usize
-    ensures number { result ≡ cell_number (slice_index_or (grid screen.now).cells place blank) }
+    ensures number { result ≡ cell_number (slice_index_or (S.grid screen.now).cells place blank) }
     ensures small { result < 2 ^ 14 }
 {
     match screen.read(place) {
@@ -40,15 +40,15 @@ fn cell_number<S: Screen>(screen: &S, place: usize) -> usize
 
 // Whether the place is on the screen.
 fn is_on<S: Screen>(screen: &S, place: usize) -> bool
-    ensures { result ≡ has_place (grid screen.now) place }
+    ensures { result ≡ has_place (S.grid screen.now) place }
 {
     place < screen.rows() * screen.columns()
 }
 
 // How many octets the page has.
 fn page_length<S: Screen>(screen: &S, cursor: usize) -> usize
-    requires { has_place (grid screen.now) cursor ≡ true }
-    ensures { result ≡ length (octets_at (grid screen.now) cursor) }
+    requires { has_place (S.grid screen.now) cursor ≡ true }
+    ensures { result ≡ length (octets_at (S.grid screen.now) cursor) }
 {
     let count = 4 + screen.rows() * screen.columns();
     let mut length = 0;
@@ -60,11 +60,11 @@ fn page_length<S: Screen>(screen: &S, cursor: usize) -> usize
 
 // Writes the page into an area that has room for it, and answers its length.
 fn put_page<S: Screen>(screen: &S, cursor: usize, area: &mut [u8]) -> usize
-    requires on { has_place (grid screen.now) cursor ≡ true }
-    requires room { length (octets_at (grid screen.now) cursor) ≤ length area.old }
-    ensures area { area.new ≡ over (octets_at (grid screen.now) cursor) area.old }
-    ensures length { result ≡ length (octets_at (grid screen.now) cursor) }
-    ensures back { ReadsBack (grid screen.now) cursor (take result area.new) }
+    requires on { has_place (S.grid screen.now) cursor ≡ true }
+    requires room { length (octets_at (S.grid screen.now) cursor) ≤ length area.old }
+    ensures area { area.new ≡ over (octets_at (S.grid screen.now) cursor) area.old }
+    ensures length { result ≡ length (octets_at (S.grid screen.now) cursor) }
+    ensures back { ReadsBack (S.grid screen.now) cursor (take result area.new) }
 {
     let count = 4 + screen.rows() * screen.columns();
     let mut end = 0;
@@ -76,9 +76,9 @@ fn put_page<S: Screen>(screen: &S, cursor: usize, area: &mut [u8]) -> usize
 
 // Writes the page of a screen, with the cursor at this place, into the area, and answers its length.
 pub fn write_page<S: Screen>(screen: &S, cursor: usize, area: &mut [u8]) -> Result<usize, Refusal>
-    ensures area { area.new ≡ (writes (grid screen.now) cursor area.old).area }
-    ensures answer { result ≡ (writes (grid screen.now) cursor area.old).answer }
-    ensures read_back { IfOk result (λ n. ReadsBack (grid screen.now) cursor (take n area.new)) }
+    ensures area { area.new ≡ (writes (S.grid screen.now) cursor area.old).area }
+    ensures answer { result ≡ (writes (S.grid screen.now) cursor area.old).answer }
+    ensures read_back { IfOk result (λ n. ReadsBack (S.grid screen.now) cursor (take n area.new)) }
 {
     if !is_on(screen, cursor) {
         return Err(Refusal::OffScreen);

@@ -14,7 +14,7 @@ use screen::interface::Screen;
 
 // The nearest start of entry at or before the cursor, or place 0.
 fn start_at<S: Screen>(screen: &S, cursor: usize) -> usize
-    ensures place { result ≡ start_at (grid screen.now).cells cursor }
+    ensures place { result ≡ start_at (S.grid screen.now).cells cursor }
     ensures before { result ≤ cursor }
 {
     let mut at = cursor;
@@ -26,8 +26,8 @@ fn start_at<S: Screen>(screen: &S, cursor: usize) -> usize
 
 // The address of the first cell.
 fn put_address<S: Screen>(held: &mut HeldText, screen: &S, first: usize)
-    requires { first < size (grid screen.now) }
-    ensures sent { text_of held.new ≡ opening (grid screen.now).columns first }
+    requires { first < size (S.grid screen.now) }
+    ensures sent { text_of held.new ≡ opening (S.grid screen.now).columns first }
     ensures len { held.new.len ≡ 5 }
 {
     let columns = screen.columns();
@@ -48,8 +48,8 @@ fn put_part<S: Screen>(
     was: bool,
     kind: Kind,
 ) -> bool
-    requires { (from ≤ to) × ((to ≤ size (grid screen.now)) × (held.old.len + 3 * (to - from) ≤ 5766)) }
-    ensures sent { sent_of held.new result ≡ sends kind (between from to (grid screen.now).cells) (sent_of held.old was) }
+    requires { (from ≤ to) × ((to ≤ size (S.grid screen.now)) × (held.old.len + 3 * (to - from) ≤ 5766)) }
+    ensures sent { sent_of held.new result ≡ sends kind (between from to (S.grid screen.now).cells) (sent_of held.old was) }
     ensures len { held.new.len ≤ held.old.len + 3 * (to - from) }
 {
     let mut last = was;
@@ -65,9 +65,9 @@ fn put_part<S: Screen>(
 
 // Where a part ends without the open spaces at the end of what is sent of it, and how many of those there are.
 fn trimmed_end<S: Screen>(screen: &S, from: usize, to: usize, kind: Kind) -> (usize, usize)
-    requires { (from ≤ to) × (to ≤ size (grid screen.now)) }
-    ensures left { result.1 ≡ suffix_len is_open_space (filter (is_sent kind) (between from to (grid screen.now).cells)) }
-    ensures stop { filter (is_sent kind) (between from result.0 (grid screen.now).cells) ≡ trimmed (filter (is_sent kind) (between from to (grid screen.now).cells)) }
+    requires { (from ≤ to) × (to ≤ size (S.grid screen.now)) }
+    ensures left { result.1 ≡ suffix_len is_open_space (filter (is_sent kind) (between from to (S.grid screen.now).cells)) }
+    ensures stop { filter (is_sent kind) (between from result.0 (S.grid screen.now).cells) ≡ trimmed (filter (is_sent kind) (between from to (S.grid screen.now).cells)) }
     ensures low { from ≤ result.0 }
     ensures room { result.0 + result.1 ≤ to }
 {
@@ -95,8 +95,8 @@ fn put_row<S: Screen>(
     was: bool,
     kind: Kind,
 ) -> bool
-    requires { (from ≤ to) × ((to ≤ size (grid screen.now)) × (held.old.len + 3 * (to - from) ≤ 5766)) }
-    ensures sent { sent_of held.new result ≡ row_sends kind (between from to (grid screen.now).cells) (sent_of held.old was) }
+    requires { (from ≤ to) × ((to ≤ size (S.grid screen.now)) × (held.old.len + 3 * (to - from) ≤ 5766)) }
+    ensures sent { sent_of held.new result ≡ row_sends kind (between from to (S.grid screen.now).cells) (sent_of held.old was) }
     ensures len { held.new.len ≤ held.old.len + 3 * (to - from) }
 {
     let (stop, left) = trimmed_end(screen, from, to, kind);
@@ -115,8 +115,8 @@ fn put_stretch<S: Screen>(
     cursor: usize,
     kind: Kind,
 ) -> bool
-    requires { (first ≤ cursor) × ((cursor < size (grid screen.now)) × (held.old.len ≡ 5)) }
-    ensures sent { sent_of held.new result ≡ stretch kind (view (grid screen.now) cursor) first (sent_of held.old false) }
+    requires { (first ≤ cursor) × ((cursor < size (S.grid screen.now)) × (held.old.len ≡ 5)) }
+    ensures sent { sent_of held.new result ≡ stretch kind (view (S.grid screen.now) cursor) first (sent_of held.old false) }
     ensures len { held.new.len < 5766 }
 {
     let columns = screen.columns();
@@ -133,7 +133,7 @@ fn put_stretch<S: Screen>(
 impl HeldText {
     // Takes up the text of a transmission with the cursor at a place, in the place of what stood here.
     pub fn take_up<S: Screen>(&mut self, screen: &S, cursor: usize, kind: Kind)
-        ensures { text_of self.new ≡ taken kind (at (grid screen.now) cursor) }
+        ensures { text_of self.new ≡ taken kind (at (S.grid screen.now) cursor) }
     {
         let place = on_screen(screen, cursor);
         let first = start_at(screen, place);

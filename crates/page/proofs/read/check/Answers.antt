@@ -22,7 +22,7 @@ returns c =
       cells = all.0;
       whole = whole;
       ahead = cells;
-      same = same_octets os (page_of h all.0) (λ i. (c.type-inv.octets i).fits) whole;
+      same = same_octets os (page_of h all.0) (λ i. (c.type_inv.octets i).fits) whole;
       few_rows = c.in_ok-header.ensures.size.0;
       few_columns = c.in_ok-header.ensures.size.1;
     }

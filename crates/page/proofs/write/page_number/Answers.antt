@@ -14,8 +14,8 @@ returns-in-3 g c =
       small = omega (arith, ltb-true c.args.cursor (length G.cells) c.requires, few_cells G (g.S.Screen.sound c.args.screen.now));
     }
 
-pub returns-in-default : goal.returns-in-default
-returns-in-default g c =
+pub returns-in_default : goal.returns-in_default
+returns-in_default g c =
     let G = g.S.Screen.grid c.args.screen.now in
     record {
       number = c.cell_number.ensures.number ∙ sym (cell_at (page_at G c.args.cursor) c.args.place (omega arith));
