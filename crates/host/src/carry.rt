@@ -12,12 +12,12 @@ use text::reader::Reader;
 
 // Carries out the steps of a text, with what it writes protected or not at first.
 fn carry_steps<S: Screen>(screen: &mut S, state: &mut State, protected: bool, text: &[u8])
-    requires { state.old.cursor < size (grid screen.old) }
-    ensures rest { rest screen.new ≡ rest screen.old }
-    ensures view { view (grid screen.new) state.new.cursor ≡ drawn_all protected (steps_of text.now) (at (grid screen.old) state.old.cursor) }
+    requires { state.old.cursor < size (S.grid screen.old) }
+    ensures rest { S.rest screen.new ≡ S.rest screen.old }
+    ensures view { view (S.grid screen.new) state.new.cursor ≡ drawn_all protected (steps_of text.now) (at (S.grid screen.old) state.old.cursor) }
     ensures locked { state.new.locked ≡ (state.old.locked || some_step is_lock (steps_of text.now)) }
     ensures light { state.new.light ≡ (state.old.light || some_step is_light (steps_of text.now)) }
-    ensures held { held_of state.new ≡ or_else (held_of state.old) (taking protected (steps_of text.now) (at (grid screen.old) state.old.cursor)) }
+    ensures held { held_of state.new ≡ or_else (held_of state.old) (taking protected (steps_of text.now) (at (S.grid screen.old) state.old.cursor)) }
 {
     let mut mark = protected;
     let mut reader = Reader::new(text);
@@ -31,11 +31,11 @@ fn carry_steps<S: Screen>(screen: &mut S, state: &mut State, protected: bool, te
 // Carries out a host text; it starts open. A cursor off the screen counts as a place going round. The answer tells
 // whether a transmission was taken up.
 pub fn carry_out<S: Screen>(screen: &mut S, state: &mut State, text: &[u8]) -> bool
-    ensures rest { rest screen.new ≡ rest screen.old }
-    ensures view { view (grid screen.new) state.new.cursor ≡ drawn_all false (steps_of text.now) (at (grid screen.old) state.old.cursor) }
+    ensures rest { S.rest screen.new ≡ S.rest screen.old }
+    ensures view { view (S.grid screen.new) state.new.cursor ≡ drawn_all false (steps_of text.now) (at (S.grid screen.old) state.old.cursor) }
     ensures locked { state.new.locked ≡ (some_step is_lock (steps_of text.now) || is_some (held_of state.new)) }
     ensures light { state.new.light ≡ (state.old.light || some_step is_light (steps_of text.now)) }
-    ensures held { held_of state.new ≡ or_else (held_of state.old) (taking false (steps_of text.now) (at (grid screen.old) state.old.cursor)) }
+    ensures held { held_of state.new ≡ or_else (held_of state.old) (taking false (steps_of text.now) (at (S.grid screen.old) state.old.cursor)) }
     ensures answer { result ≡ (is_some (held_of state.new) && not (is_some (held_of state.old))) }
 {
     let held = state.is_held();

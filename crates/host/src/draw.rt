@@ -41,8 +41,8 @@ pub(crate) fn protects(protected: bool, step: Step) -> bool
 
 // ESC and a code.
 fn draw_escape<S: Screen>(screen: &mut S, cursor: usize, protected: bool, letter: char) -> usize
-    ensures rest { rest screen.new ≡ rest screen.old }
-    ensures view { view (grid screen.new) result ≡ escape_drawn protected letter (at (grid screen.old) cursor) }
+    ensures rest { S.rest screen.new ≡ S.rest screen.old }
+    ensures view { view (S.grid screen.new) result ≡ escape_drawn protected letter (at (S.grid screen.old) cursor) }
 {
     if letter == '\t' {
         return write_run(screen, cursor, &[HT], protected);
@@ -55,8 +55,8 @@ fn draw_escape<S: Screen>(screen: &mut S, cursor: usize, protected: bool, letter
 
 // Any other code.
 fn draw_control<S: Screen>(screen: &mut S, cursor: usize, protected: bool, code: u8) -> usize
-    ensures rest { rest screen.new ≡ rest screen.old }
-    ensures view { view (grid screen.new) result ≡ control_drawn protected code (at (grid screen.old) cursor) }
+    ensures rest { S.rest screen.new ≡ S.rest screen.old }
+    ensures view { view (S.grid screen.new) result ≡ control_drawn protected code (at (S.grid screen.old) cursor) }
 {
     match code {
         FS | GS | RS => write_run(screen, cursor, &[code], protected),
@@ -68,8 +68,8 @@ fn draw_control<S: Screen>(screen: &mut S, cursor: usize, protected: bool, code:
 
 // Draws a step, and answers where the cursor is then.
 pub(crate) fn draw<S: Screen>(screen: &mut S, cursor: usize, protected: bool, step: Step) -> usize
-    ensures rest { rest screen.new ≡ rest screen.old }
-    ensures view { view (grid screen.new) result ≡ drawn protected (shown step.entry) (at (grid screen.old) cursor) }
+    ensures rest { S.rest screen.new ≡ S.rest screen.old }
+    ensures view { view (S.grid screen.new) result ≡ drawn protected (shown step.entry) (at (S.grid screen.old) cursor) }
 {
     match step {
         Step::Run(run, _) => write_run(screen, cursor, run, protected),

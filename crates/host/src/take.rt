@@ -33,7 +33,7 @@ impl State {
         ensures cursor { self.new.cursor ≡ self.old.cursor }
         ensures locked { self.new.locked ≡ self.old.locked }
         ensures light { self.new.light ≡ self.old.light }
-        ensures held { held_of self.new ≡ or_else (held_of self.old) (Some (taken kind (at (grid screen.now) self.old.cursor))) }
+        ensures held { held_of self.new ≡ or_else (held_of self.old) (Some (taken kind (at (S.grid screen.now) self.old.cursor))) }
     {
         if !self.holds {
             self.text.take_up(screen, self.cursor, kind);
@@ -46,7 +46,7 @@ impl State {
         ensures cursor { self.new.cursor ≡ self.old.cursor }
         ensures locked { self.new.locked ≡ true }
         ensures light { self.new.light ≡ self.old.light }
-        ensures held { held_of self.new ≡ or_else (held_of self.old) (Some (taken kind (at (grid screen.now) self.old.cursor))) }
+        ensures held { held_of self.new ≡ or_else (held_of self.old) (Some (taken kind (at (S.grid screen.now) self.old.cursor))) }
     {
         self.hold(screen, kind);
         self.locked = true;
@@ -57,7 +57,7 @@ impl State {
         ensures cursor { self.new.cursor ≡ self.old.cursor }
         ensures locked { self.new.locked ≡ (self.old.locked || is_lock effect) }
         ensures light { self.new.light ≡ (self.old.light || is_light effect) }
-        ensures held { held_of self.new ≡ or_else (held_of self.old) (took effect (at (grid screen.now) self.old.cursor)) }
+        ensures held { held_of self.new ≡ or_else (held_of self.old) (took effect (at (S.grid screen.now) self.old.cursor)) }
     {
         match effect {
             Effect::Nothing => {}
@@ -76,8 +76,8 @@ impl State {
 
     // At a text's beginning: the cursor on the screen, and no lock code yet.
     pub(crate) fn open<S: Screen>(&mut self, screen: &S)
-        ensures cursor { at (grid screen.now) self.new.cursor ≡ at (grid screen.now) self.old.cursor }
-        ensures on { self.new.cursor < size (grid screen.now) }
+        ensures cursor { at (S.grid screen.now) self.new.cursor ≡ at (S.grid screen.now) self.old.cursor }
+        ensures on { self.new.cursor < size (S.grid screen.now) }
         ensures locked { self.new.locked ≡ false }
         ensures light { self.new.light ≡ self.old.light }
         ensures held { held_of self.new ≡ held_of self.old }

@@ -47,7 +47,7 @@ returns g c =
     let last = c.loop-step.state in
     let p = c.loop-step.mark in
     let i = c.loop-step.invariant in
-    let end = sym c.in-default.ensures in
+    let end = sym c.in_default.ensures in
     record {
       rest = i.0;
       view = sym (at_view here last.cursor i.1) ∙ ap (λ x. drawn_all p x (at here last.cursor)) end ∙ i.2;
