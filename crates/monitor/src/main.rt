@@ -49,7 +49,13 @@ fn main(rt: HostRuntime) -> Result<(), ()> {
             return Err(());
         }
     };
-    let mut out = BufWriter::new(rt.stdout());
+    let mut out = match BufWriter::new(rt.alloc(), rt.stdout()) {
+        Ok(out) => out,
+        Err(e) => {
+            let _ = eprintln!(rt; "monitor: {e}");
+            return Err(());
+        }
+    };
     let result = run(rt.stdin(), &mut out, report);
     let flushed = out.flush();
     if let Err(e) = result {

@@ -56,7 +56,10 @@ fn show(rt: &HostRuntime, file: String, named: Option<String>) -> Result<(), ()>
             return Err(());
         }
     };
-    let mut out = BufWriter::new(rt.stdout());
+    let mut out = match BufWriter::new(rt.alloc(), rt.stdout()) {
+        Ok(out) => out,
+        Err(e) => return complain(rt, e),
+    };
     let result = preview(&mut out, size, text.as_slice());
     let flushed = out.flush();
     match (result, flushed) {
@@ -80,7 +83,11 @@ fn show(rt: &HostRuntime, file: String, named: Option<String>) -> Result<(), ()>
 
 // Runs the script on standard input.
 fn script(rt: &HostRuntime) -> Result<(), ()> {
-    match run(rt.alloc(), rt.stdin(), BufWriter::new(rt.stdout())) {
+    let out = match BufWriter::new(rt.alloc(), rt.stdout()) {
+        Ok(out) => out,
+        Err(e) => return complain(rt, e),
+    };
+    match run(rt.alloc(), rt.stdin(), out) {
         Ok(()) => Ok(()),
         Err(e) => complain(rt, e),
     }

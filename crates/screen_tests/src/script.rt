@@ -9,9 +9,9 @@ use screen::refusal::Refusal;
 
 // Letters in the first and the last cells, some protected, with a tab stop and a start of entry.
 fn fill_in<S: Screen>(screen: &mut S, last: usize)
-    ensures rest { rest screen.new ≡ rest screen.old }
-    ensures rows { (grid screen.new).rows ≡ (grid screen.old).rows }
-    ensures columns { (grid screen.new).columns ≡ (grid screen.old).columns }
+    ensures rest { S.rest screen.new ≡ S.rest screen.old }
+    ensures rows { (S.grid screen.new).rows ≡ (S.grid screen.old).rows }
+    ensures columns { (S.grid screen.new).columns ≡ (S.grid screen.old).columns }
 {
     let _ = screen.write(0, b'A', true);
     let _ = screen.write(1, b'B', false);
@@ -23,9 +23,9 @@ fn fill_in<S: Screen>(screen: &mut S, last: usize)
 
 // Rows removed and inserted, the first and the last too.
 fn move_rows<S: Screen>(screen: &mut S, bottom: usize)
-    ensures rest { rest screen.new ≡ rest screen.old }
-    ensures rows { (grid screen.new).rows ≡ (grid screen.old).rows }
-    ensures columns { (grid screen.new).columns ≡ (grid screen.old).columns }
+    ensures rest { S.rest screen.new ≡ S.rest screen.old }
+    ensures rows { (S.grid screen.new).rows ≡ (S.grid screen.old).rows }
+    ensures columns { (S.grid screen.new).columns ≡ (S.grid screen.old).columns }
 {
     let _ = screen.insert_row(0);
     let _ = screen.insert_row(1);
@@ -37,9 +37,9 @@ fn move_rows<S: Screen>(screen: &mut S, bottom: usize)
 
 // Calls off the screen and of a character that no cell holds: the number of those refused.
 fn refused_calls<S: Screen>(screen: &mut S, rows: usize, end: usize) -> u8
-    ensures rest { rest screen.new ≡ rest screen.old }
-    ensures rows { (grid screen.new).rows ≡ (grid screen.old).rows }
-    ensures columns { (grid screen.new).columns ≡ (grid screen.old).columns }
+    ensures rest { S.rest screen.new ≡ S.rest screen.old }
+    ensures rows { (S.grid screen.new).rows ≡ (S.grid screen.old).rows }
+    ensures columns { (S.grid screen.new).columns ≡ (S.grid screen.old).columns }
 {
     let place = screen.write(end, b'X', false);
     let code = screen.write(0, 0x7f, false);
@@ -53,9 +53,9 @@ fn refused_calls<S: Screen>(screen: &mut S, rows: usize, end: usize) -> u8
 
 // The script: answers how many calls were refused, of the four that should be.
 pub fn script<S: Screen>(screen: &mut S) -> u8
-    ensures rest { rest screen.new ≡ rest screen.old }
-    ensures rows { (grid screen.new).rows ≡ (grid screen.old).rows }
-    ensures columns { (grid screen.new).columns ≡ (grid screen.old).columns }
+    ensures rest { S.rest screen.new ≡ S.rest screen.old }
+    ensures rows { (S.grid screen.new).rows ≡ (S.grid screen.old).rows }
+    ensures columns { (S.grid screen.new).columns ≡ (S.grid screen.old).columns }
 {
     let rows = screen.rows();
     let columns = screen.columns();
@@ -73,7 +73,7 @@ pub fn write_and_read<S: Screen>(
     code: u8,
     mark: bool,
 ) -> Result<(u8, bool), Refusal>
-    ensures { result ≡ on_screen (writable (grid screen.old) place code) (code, mark) }
+    ensures { result ≡ on_screen (writable (S.grid screen.old) place code) (code, mark) }
 {
     screen.write(place, code, mark)?;
     screen.read(place)

@@ -13,9 +13,9 @@ use window::window::Window;
 
 // Through a turning layer.
 pub fn turned<S: Screen>(screen: &mut S) -> u8
-    ensures rest { rest screen.new ≡ rest screen.old }
-    ensures rows { (grid screen.new).rows ≡ (grid screen.old).rows }
-    ensures columns { (grid screen.new).columns ≡ (grid screen.old).columns }
+    ensures rest { S.rest screen.new ≡ S.rest screen.old }
+    ensures rows { (S.grid screen.new).rows ≡ (S.grid screen.old).rows }
+    ensures columns { (S.grid screen.new).columns ≡ (S.grid screen.old).columns }
 {
     let mut top = Turning::new(screen);
     script(&mut top)
@@ -23,10 +23,10 @@ pub fn turned<S: Screen>(screen: &mut S) -> u8
 
 // In a window with a turning layer over it: the cells outside the window stay.
 pub fn in_window<S: Screen>(screen: &mut S, rows: usize, columns: usize) -> Result<u8, Refusal>
-    ensures rest { rest screen.new ≡ rest screen.old }
-    ensures rows { (grid screen.new).rows ≡ (grid screen.old).rows }
-    ensures columns { (grid screen.new).columns ≡ (grid screen.old).columns }
-    ensures outside { outside rows columns (grid screen.new) ≡ outside rows columns (grid screen.old) }
+    ensures rest { S.rest screen.new ≡ S.rest screen.old }
+    ensures rows { (S.grid screen.new).rows ≡ (S.grid screen.old).rows }
+    ensures columns { (S.grid screen.new).columns ≡ (S.grid screen.old).columns }
+    ensures outside { outside rows columns (S.grid screen.new) ≡ outside rows columns (S.grid screen.old) }
 {
     let extent = Extent::within(screen, rows, columns)?;
     let mut window = Window::new(screen, extent);
@@ -39,9 +39,9 @@ pub fn in_turned_window<S: Screen>(
     rows: usize,
     columns: usize,
 ) -> Result<u8, Refusal>
-    ensures rest { rest screen.new ≡ rest screen.old }
-    ensures rows { (grid screen.new).rows ≡ (grid screen.old).rows }
-    ensures columns { (grid screen.new).columns ≡ (grid screen.old).columns }
+    ensures rest { S.rest screen.new ≡ S.rest screen.old }
+    ensures rows { (S.grid screen.new).rows ≡ (S.grid screen.old).rows }
+    ensures columns { (S.grid screen.new).columns ≡ (S.grid screen.old).columns }
 {
     let mut turned = Turning::new(screen);
     in_window(&mut turned, rows, columns)
