@@ -1,7 +1,7 @@
 // Pressing a key.
 ghost use Rattle.std.specs.Prelude.{◌≡◌, true};
 ghost use Rattle.host.specs.Carrying.{is_some, held_of};
-ghost use Rattle.edit.specs.Writing.{any-open};
+ghost use Rattle.edit.specs.Writing.{any_open};
 ghost use Rattle.station.specs.Console.{new_console};
 ghost use Rattle.station.specs.Meaning.{console_of, station_of};
 ghost use Rattle.station.specs.Station.{does_key, is_called, can_do, pressed};
@@ -35,7 +35,7 @@ impl Console {
     // What the guards of a key look at.
     fn guards<S: Screen>(&self, screen: &S) -> Guards
         ensures locked { result.locked ≡ self.now.host.locked }
-        ensures open { result.any_open ≡ any-open (grid screen.now) }
+        ensures open { result.any_open ≡ any_open (S.grid screen.now) }
         ensures held { result.held ≡ is_some (held_of self.now.host) }
         ensures called { result.called ≡ is_called self.now.call }
     {
@@ -48,9 +48,9 @@ impl Console {
     }
 
     fn store<S: Screen>(&mut self, screen: &mut S, code: u8)
-        requires { any-open (grid screen.old) ≡ true }
-        ensures rest { rest screen.new ≡ rest screen.old }
-        ensures after { station_of (grid screen.new) self.new ≡ does_key (KeyAction.Store code) (station_of (grid screen.old) self.old) }
+        requires { any_open (S.grid screen.old) ≡ true }
+        ensures rest { S.rest screen.new ≡ S.rest screen.old }
+        ensures after { station_of (S.grid screen.new) self.new ≡ does_key (KeyAction.Store code) (station_of (S.grid screen.old) self.old) }
     {
         if let Some(next) = store(screen, self.host.cursor, code) {
             self.host.cursor = next;
@@ -58,21 +58,23 @@ impl Console {
     }
 
     fn edit<S: Screen>(&mut self, screen: &mut S, edit: Edit)
-        ensures rest { rest screen.new ≡ rest screen.old }
-        ensures after { station_of (grid screen.new) self.new ≡ does_key (KeyAction.Edit edit) (station_of (grid screen.old) self.old) }
+        ensures rest { S.rest screen.new ≡ S.rest screen.old }
+        ensures after { station_of (S.grid screen.new) self.new ≡ does_key (KeyAction.Edit edit) (station_of (S.grid screen.old) self.old) }
     {
         self.host.cursor = apply(screen, self.host.cursor, edit);
     }
 
     fn transmit<S: Screen>(&mut self, screen: &S, kind: Kind)
-        ensures { station_of (grid screen.now) self.new ≡ does_key (KeyAction.Transmit kind) (station_of (grid screen.now) self.old) }
+        ensures { station_of (S.grid screen.now) self.new ≡ does_key (KeyAction.Transmit kind) (station_of (S.grid screen.now) self.old) }
     {
-        self.host.transmit(screen, kind);
+        self.host.text.take_up(screen, self.host.cursor, kind);
+        self.host.holds = true;
+        self.host.locked = true;
     }
 
     // MESSAGE WAIT, which calls with BEL, puts the light off.
     fn call<S: Screen>(&mut self, screen: &S, code: u8)
-        ensures { station_of (grid screen.now) self.new ≡ does_key (KeyAction.Call code) (station_of (grid screen.now) self.old) }
+        ensures { station_of (S.grid screen.now) self.new ≡ does_key (KeyAction.Call code) (station_of (S.grid screen.now) self.old) }
     {
         self.call = Some(code);
         if code == BEL {
@@ -81,16 +83,16 @@ impl Console {
     }
 
     fn unlock<S: Screen>(&mut self, screen: &S)
-        ensures { station_of (grid screen.now) self.new ≡ does_key KeyAction.Unlock (station_of (grid screen.now) self.old) }
+        ensures { station_of (S.grid screen.now) self.new ≡ does_key KeyAction.Unlock (station_of (S.grid screen.now) self.old) }
     {
         self.host.locked = false;
     }
 
     // Does what a key is to do.
     fn perform<S: Screen>(&mut self, screen: &mut S, action: KeyAction)
-        requires { can_do action (grid screen.old) ≡ true }
-        ensures rest { rest screen.new ≡ rest screen.old }
-        ensures after { station_of (grid screen.new) self.new ≡ does_key action (station_of (grid screen.old) self.old) }
+        requires { can_do action (S.grid screen.old) ≡ true }
+        ensures rest { S.rest screen.new ≡ S.rest screen.old }
+        ensures after { station_of (S.grid screen.new) self.new ≡ does_key action (station_of (S.grid screen.old) self.old) }
     {
         match action {
             KeyAction::Store(code) => self.store(screen, code),
@@ -103,9 +105,9 @@ impl Console {
 
     // Presses a key.
     pub fn press<S: Screen>(&mut self, screen: &mut S, key: u8) -> Result<Answer, KeyRefusal>
-        ensures rest { rest screen.new ≡ rest screen.old }
-        ensures answer { result ≡ (pressed key (station_of (grid screen.old) self.old)).answer }
-        ensures after { station_of (grid screen.new) self.new ≡ (pressed key (station_of (grid screen.old) self.old)).after }
+        ensures rest { S.rest screen.new ≡ S.rest screen.old }
+        ensures answer { result ≡ (pressed key (station_of (S.grid screen.old) self.old)).answer }
+        ensures after { station_of (S.grid screen.new) self.new ≡ (pressed key (station_of (S.grid screen.old) self.old)).after }
     {
         let action = KeyAction::decide(key, self.guards(screen))?;
         self.perform(screen, action);
