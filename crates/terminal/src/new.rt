@@ -21,8 +21,8 @@ use station::identity::Identity;
 
 // Makes every cell an open space.
 fn clear<S: Screen>(screen: &mut S)
-    ensures rest { rest screen.new ≡ rest screen.old }
-    ensures grid { grid screen.new ≡ with_cells (grid screen.old) (replicate (size (grid screen.old)) blank) }
+    ensures rest { S.rest screen.new ≡ S.rest screen.old }
+    ensures grid { S.grid screen.new ≡ with_cells (S.grid screen.old) (replicate (size (S.grid screen.old)) blank) }
 {
     let _ = apply(screen, 0, Edit::Change(Change::EraseAll));
 }
@@ -34,8 +34,8 @@ impl<'s, L: Line, S: Screen> Terminal<'s, L, S> {
         ensures line { result.line ≡ line }
         ensures identity { result.identity ≡ identity }
         ensures screen { result.screen.ghost_name ≡ screen.entry.ghost_name }
-        ensures rest { rest result.screen.now ≡ rest screen.old }
-        ensures grid { grid result.screen.now ≡ with_cells (grid screen.old) (replicate (size (grid screen.old)) blank) }
+        ensures rest { S.rest result.screen.now ≡ S.rest screen.old }
+        ensures grid { S.grid result.screen.now ≡ with_cells (S.grid screen.old) (replicate (size (S.grid screen.old)) blank) }
         ensures cursor { result.console.host.cursor ≡ 0 }
         ensures console { console_of result.console ≡ new_console }
         ensures receiver { receiver.state_of result.receiver ≡ idle }

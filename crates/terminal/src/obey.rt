@@ -81,9 +81,9 @@ fn answer_poll<L: Line>(
 
 // Carries out a host text, which is to be acknowledged.
 fn carry_text<S: Screen>(screen: &mut S, console: &mut Console, text: &[u8]) -> Answer
-    ensures rest { rest screen.new ≡ rest screen.old }
-    ensures answer { Ok result ≡ (carries_out {R = fault.MessageFault} (steps_of text.now) (station_of (grid screen.old) console.old)).answer }
-    ensures after { station_of (grid screen.new) console.new ≡ (carries_out {R = fault.MessageFault} (steps_of text.now) (station_of (grid screen.old) console.old)).after }
+    ensures rest { S.rest screen.new ≡ S.rest screen.old }
+    ensures answer { Ok result ≡ (carries_out {R = fault.MessageFault} (steps_of text.now) (station_of (S.grid screen.old) console.old)).answer }
+    ensures after { station_of (S.grid screen.new) console.new ≡ (carries_out {R = fault.MessageFault} (steps_of text.now) (station_of (S.grid screen.old) console.old)).after }
 {
     let taken_up = carry_out(screen, &mut console.host, text);
     console.due = true;
@@ -101,10 +101,10 @@ pub(crate) fn obey<L: Line, S: Screen>(
     area: &mut [u8],
 ) -> Result<Answer, OctetRefusal>
     requires { 5800 ≤ length area.old }
-    ensures rest { rest screen.new ≡ rest screen.old }
-    ensures answer { result ≡ told kept (obeyed L.Line.kind identity message.now (station_of (grid screen.old) console.old)).answer }
-    ensures area { area.new ≡ over (obeyed L.Line.kind identity message.now (station_of (grid screen.old) console.old)).reply area.old }
-    ensures after { station_of (grid screen.new) console.new ≡ (obeyed L.Line.kind identity message.now (station_of (grid screen.old) console.old)).after }
+    ensures rest { S.rest screen.new ≡ S.rest screen.old }
+    ensures answer { result ≡ told kept (obeyed L.Line.kind identity message.now (station_of (S.grid screen.old) console.old)).answer }
+    ensures area { area.new ≡ over (obeyed L.Line.kind identity message.now (station_of (S.grid screen.old) console.old)).reply area.old }
+    ensures after { station_of (S.grid screen.new) console.new ≡ (obeyed L.Line.kind identity message.now (station_of (S.grid screen.old) console.old)).after }
 {
     match MessageAction::decide(identity, console.outstanding, message) {
         Ok(MessageAction::Poll(acknowledges)) => {

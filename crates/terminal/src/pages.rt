@@ -13,13 +13,13 @@ impl<'s, L: Line, S: Screen> Terminal<'s, L, S> {
     // else stay.
     pub fn read_page(&mut self, octets: &[u8]) -> Result<usize, Refusal>
         ensures screen { self.new.screen.ghost_name ≡ self.old.screen.ghost_name }
-        ensures rest { rest self.new.screen.now ≡ rest self.old.screen.now }
+        ensures rest { S.rest self.new.screen.now ≡ S.rest self.old.screen.now }
         ensures identity { self.new.identity ≡ self.old.identity }
         ensures line { self.new.line ≡ self.old.line }
         ensures receiver { self.new.receiver ≡ self.old.receiver }
         ensures console { self.new.console ≡ self.old.console }
-        ensures grid { grid self.new.screen.now ≡ (reads (grid self.old.screen.now) octets.now).grid }
-        ensures answer { result ≡ (reads (grid self.old.screen.now) octets.now).answer }
+        ensures grid { S.grid self.new.screen.now ≡ (reads (S.grid self.old.screen.now) octets.now).grid }
+        ensures answer { result ≡ (reads (S.grid self.old.screen.now) octets.now).answer }
     {
         read_page(octets, self.screen)
     }

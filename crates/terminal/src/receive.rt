@@ -17,7 +17,7 @@ impl<'s, L: Line, S: Screen> Terminal<'s, L, S> {
     // Presses a key.
     pub fn press(&mut self, key: u8) -> Result<Answer, KeyRefusal>
         ensures screen { self.new.screen.ghost_name ≡ self.old.screen.ghost_name }
-        ensures rest { rest self.new.screen.now ≡ rest self.old.screen.now }
+        ensures rest { S.rest self.new.screen.now ≡ S.rest self.old.screen.now }
         ensures identity { self.new.identity ≡ self.old.identity }
         ensures answer { result ≡ (keyed key (state_of L.Line.wants S.Screen.grid self.old)).answer }
         ensures after { state_of L.Line.wants S.Screen.grid self.new ≡ (keyed key (state_of L.Line.wants S.Screen.grid self.old)).after }
@@ -29,7 +29,7 @@ impl<'s, L: Line, S: Screen> Terminal<'s, L, S> {
     // Receives an octet, with an area for the reply.
     pub fn receive(&mut self, octet: u8, area: &mut [u8]) -> Result<Answer, OctetRefusal>
         ensures screen { self.new.screen.ghost_name ≡ self.old.screen.ghost_name }
-        ensures rest { rest self.new.screen.now ≡ rest self.old.screen.now }
+        ensures rest { S.rest self.new.screen.now ≡ S.rest self.old.screen.now }
         ensures identity { self.new.identity ≡ self.old.identity }
         ensures answer { result ≡ (received L.Line.kind self.old.identity octet (length area.old) (state_of L.Line.wants S.Screen.grid self.old)).answer }
         ensures area { area.new ≡ over (received L.Line.kind self.old.identity octet (length area.old) (state_of L.Line.wants S.Screen.grid self.old)).reply area.old }
@@ -42,7 +42,7 @@ impl<'s, L: Line, S: Screen> Terminal<'s, L, S> {
     // The step of a key, of which the law is shown.
     fn lawful_key(&mut self, key: u8) -> Result<Answer, KeyRefusal>
         ensures screen { self.new.screen.ghost_name ≡ self.old.screen.ghost_name }
-        ensures rest { rest self.new.screen.now ≡ rest self.old.screen.now }
+        ensures rest { S.rest self.new.screen.now ≡ S.rest self.old.screen.now }
         ensures identity { self.new.identity ≡ self.old.identity }
         ensures answer { result ≡ (keyed key (state_of L.Line.wants S.Screen.grid self.old)).answer }
         ensures after { state_of L.Line.wants S.Screen.grid self.new ≡ (keyed key (state_of L.Line.wants S.Screen.grid self.old)).after }
@@ -54,7 +54,7 @@ impl<'s, L: Line, S: Screen> Terminal<'s, L, S> {
     // The step of an octet, of which the law is shown.
     fn lawful_octet(&mut self, octet: u8, area: &mut [u8]) -> Result<Answer, OctetRefusal>
         ensures screen { self.new.screen.ghost_name ≡ self.old.screen.ghost_name }
-        ensures rest { rest self.new.screen.now ≡ rest self.old.screen.now }
+        ensures rest { S.rest self.new.screen.now ≡ S.rest self.old.screen.now }
         ensures identity { self.new.identity ≡ self.old.identity }
         ensures answer { result ≡ (received L.Line.kind self.old.identity octet (length area.old) (state_of L.Line.wants S.Screen.grid self.old)).answer }
         ensures area { area.new ≡ over (received L.Line.kind self.old.identity octet (length area.old) (state_of L.Line.wants S.Screen.grid self.old)).reply area.old }

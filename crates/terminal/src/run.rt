@@ -36,7 +36,7 @@ impl<'s, L: Line, S: Screen> Terminal<'s, L, S> {
     // One event, with an area for a reply.
     fn step(&mut self, event: Event, area: &mut [u8]) -> Result<Answer, Refusal>
         ensures screen { self.new.screen.ghost_name ≡ self.old.screen.ghost_name }
-        ensures rest { rest self.new.screen.now ≡ rest self.old.screen.now }
+        ensures rest { S.rest self.new.screen.now ≡ S.rest self.old.screen.now }
         ensures identity { self.new.identity ≡ self.old.identity }
         ensures answer { result ≡ (outcome_of L.Line.kind self.old.identity (event_of (length area.old) event) (state_of L.Line.wants S.Screen.grid self.old)).answer }
         ensures area { area.new ≡ over (outcome_of L.Line.kind self.old.identity (event_of (length area.old) event) (state_of L.Line.wants S.Screen.grid self.old)).reply area.old }
@@ -57,7 +57,7 @@ impl<'s, L: Line, S: Screen> Terminal<'s, L, S> {
         heap: Global,
     ) -> Result<Vec<Result<Answer, Refusal>>, AllocError>
         ensures screen { self.new.screen.ghost_name ≡ self.old.screen.ghost_name }
-        ensures rest { rest self.new.screen.now ≡ rest self.old.screen.now }
+        ensures rest { S.rest self.new.screen.now ≡ S.rest self.old.screen.now }
         ensures identity { self.new.identity ≡ self.old.identity }
         ensures runs { MatchResult result (λ log. RanLawfully L.Line.kind self.old.identity (map (event_of (length area.old)) events.now) log.items (state_of L.Line.wants S.Screen.grid self.old) (state_of L.Line.wants S.Screen.grid self.new) area.old area.new) (λ _. (state_of L.Line.wants S.Screen.grid self.new ≡ state_of L.Line.wants S.Screen.grid self.old) × (area.new ≡ area.old)) }
     {

@@ -34,10 +34,10 @@ fn finish<L: Line, S: Screen>(
     area: &mut [u8],
 ) -> Result<Answer, OctetRefusal>
     requires { 5800 ≤ length area.old }
-    ensures rest { rest screen.new ≡ rest screen.old }
-    ensures answer { result ≡ told kept (obeyed L.Line.kind identity (message_of receiver.now) (station_of (grid screen.old) console.old)).answer }
-    ensures area { area.new ≡ over (obeyed L.Line.kind identity (message_of receiver.now) (station_of (grid screen.old) console.old)).reply area.old }
-    ensures after { station_of (grid screen.new) console.new ≡ (obeyed L.Line.kind identity (message_of receiver.now) (station_of (grid screen.old) console.old)).after }
+    ensures rest { S.rest screen.new ≡ S.rest screen.old }
+    ensures answer { result ≡ told kept (obeyed L.Line.kind identity (message_of receiver.now) (station_of (S.grid screen.old) console.old)).answer }
+    ensures area { area.new ≡ over (obeyed L.Line.kind identity (message_of receiver.now) (station_of (S.grid screen.old) console.old)).reply area.old }
+    ensures after { station_of (S.grid screen.new) console.new ≡ (obeyed L.Line.kind identity (message_of receiver.now) (station_of (S.grid screen.old) console.old)).after }
 {
     obey(
         line,
@@ -54,7 +54,7 @@ impl<'s, L: Line, S: Screen> Terminal<'s, L, S> {
     // A key.
     pub(crate) fn step_key(&mut self, key: u8) -> Result<Answer, KeyRefusal>
         ensures screen { self.new.screen.ghost_name ≡ self.old.screen.ghost_name }
-        ensures rest { rest self.new.screen.now ≡ rest self.old.screen.now }
+        ensures rest { S.rest self.new.screen.now ≡ S.rest self.old.screen.now }
         ensures identity { self.new.identity ≡ self.old.identity }
         ensures answer { result ≡ (keyed key (state_of L.Line.wants S.Screen.grid self.old)).answer }
         ensures after { state_of L.Line.wants S.Screen.grid self.new ≡ (keyed key (state_of L.Line.wants S.Screen.grid self.old)).after }
@@ -78,7 +78,7 @@ impl<'s, L: Line, S: Screen> Terminal<'s, L, S> {
     fn respond(&mut self, event: Event, area: &mut [u8]) -> Result<Answer, OctetRefusal>
         requires { 5800 ≤ length area.old }
         ensures screen { self.new.screen.ghost_name ≡ self.old.screen.ghost_name }
-        ensures rest { rest self.new.screen.now ≡ rest self.old.screen.now }
+        ensures rest { S.rest self.new.screen.now ≡ S.rest self.old.screen.now }
         ensures identity { self.new.identity ≡ self.old.identity }
         ensures answer { result ≡ (heard_outcome L.Line.kind self.old.identity (Ok event) (message_of self.old.receiver) (state_of L.Line.wants S.Screen.grid self.old)).answer }
         ensures area { area.new ≡ over (heard_outcome L.Line.kind self.old.identity (Ok event) (message_of self.old.receiver) (state_of L.Line.wants S.Screen.grid self.old)).reply area.old }
@@ -102,7 +102,7 @@ impl<'s, L: Line, S: Screen> Terminal<'s, L, S> {
     fn take(&mut self, octet: u8, area: &mut [u8]) -> Result<Answer, OctetRefusal>
         requires { 5800 ≤ length area.old }
         ensures screen { self.new.screen.ghost_name ≡ self.old.screen.ghost_name }
-        ensures rest { rest self.new.screen.now ≡ rest self.old.screen.now }
+        ensures rest { S.rest self.new.screen.now ≡ S.rest self.old.screen.now }
         ensures identity { self.new.identity ≡ self.old.identity }
         ensures answer { result ≡ (taken L.Line.kind self.old.identity octet (state_of L.Line.wants S.Screen.grid self.old)).answer }
         ensures area { area.new ≡ over (taken L.Line.kind self.old.identity octet (state_of L.Line.wants S.Screen.grid self.old)).reply area.old }
@@ -117,7 +117,7 @@ impl<'s, L: Line, S: Screen> Terminal<'s, L, S> {
     // An octet, with an area for the reply.
     pub(crate) fn step_octet(&mut self, octet: u8, area: &mut [u8]) -> Result<Answer, OctetRefusal>
         ensures screen { self.new.screen.ghost_name ≡ self.old.screen.ghost_name }
-        ensures rest { rest self.new.screen.now ≡ rest self.old.screen.now }
+        ensures rest { S.rest self.new.screen.now ≡ S.rest self.old.screen.now }
         ensures identity { self.new.identity ≡ self.old.identity }
         ensures answer { result ≡ (received L.Line.kind self.old.identity octet (length area.old) (state_of L.Line.wants S.Screen.grid self.old)).answer }
         ensures area { area.new ≡ over (received L.Line.kind self.old.identity octet (length area.old) (state_of L.Line.wants S.Screen.grid self.old)).reply area.old }

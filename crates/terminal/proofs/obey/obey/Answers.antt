@@ -1,0 +1,17 @@
+use Rattle.std.proofs.Common.{◌≡◌, Ok, Result, rules, ap}
+use Rattle.area.specs.Over.{over}
+use Rattle.station.specs.declared.fault.MessageFault.{MessageFault}
+use Rattle.station.specs.Meaning.{station_of}
+use Rattle.station.specs.Messages.{MessageAction, carry_out, decide_message}
+use Rattle.station.specs.Station.{message_outcome}
+use Rattle.terminal.proofs.obey.obey.Goals as goal
+
+-- a text that is carried out, and a message that is refused, get no reply
+pub returns-in-Ok-CarryOut-clause-area : goal.returns-in-Ok-CarryOut-clause-area
+returns-in-Ok-CarryOut-clause-area g c =
+    let e : Ok (carry_out c.in-Ok-CarryOut.text.now) ≡ decide_message c.args.identity c.args.console.now.outstanding c.args.message.now = search rules in
+    ap (λ d. over (message_outcome g.L.Line.kind c.args.identity d (station_of (g.S.Screen.grid c.args.screen.now) c.args.console.now)).reply c.args.area.now) e
+
+pub returns-in-Err-clause-area : goal.returns-in-Err-clause-area
+returns-in-Err-clause-area g c =
+    ap (λ d. over (message_outcome g.L.Line.kind c.args.identity d (station_of (g.S.Screen.grid c.args.screen.now) c.args.console.now)).reply c.args.area.now) c.in-Err.ensures
