@@ -5,7 +5,6 @@ use Rattle.codes.specs.Classes.{is_data}
 use Rattle.edit.specs.declared.edits.Reach.TheVariants.{Row, Display}
 use Rattle.edit.specs.declared.edits.Motion.TheVariants.{Home, Up, Down, Left, Right, Return, Tab}
 use Rattle.edit.specs.declared.edits.Change.TheVariants.{EraseOpen, Erase, Delete, Insert}
-use Rattle.edit.specs.declared.edits.Edit as edit
 use Rattle.edit.specs.declared.edits.Edit.TheVariants.{Move, Change}
 use Rattle.transmission.specs.declared.kind.Kind as sending
 use Rattle.console.specs.declared.fault.KeyRefusal.{KeyRefusal}

@@ -19,7 +19,6 @@ use Rattle.console.specs.declared.answer.Answer.{Answer}
 use Rattle.console.specs.declared.fault.KeyRefusal.{KeyRefusal}
 use Rattle.console.specs.declared.fault.MessageFault.{MessageFault}
 use Rattle.console.specs.declared.fault.Cause.TheVariants as cause
-use Rattle.console.specs.declared.fault.Fault.{Fault}
 use Rattle.console.specs.declared.fault.OctetRefusal.{OctetRefusal}
 use Rattle.console.specs.declared.fault.OctetRefusal.TheVariants as refusal
 use Rattle.console.specs.declared.identity.Identity.{Identity}

@@ -1,5 +1,5 @@
 -- Changes of some cells, under way and done.
-use Rattle.std.proofs.Common.{◌≡◌, ℕ, suc, ◌+◌, ◌-◌, ◌<◌, ◌≤◌, Bool, true, false, List, [], ◌∷◌, ◌++◌, length, get_or, take, drop, set, sym, refl, ap, ◌∙◌, ⊎_elim, arith, rules}
+use Rattle.std.proofs.Common.{◌≡◌, ℕ, suc, ◌+◌, ◌-◌, ◌<◌, ◌≤◌, Bool, true, false, List, [], ◌∷◌, ◌++◌, length, get_or, take, drop, set, sym, refl, ap, ◌∙◌, arith, rules}
 use lib.Seq.{paste}
 use Rattle.std.proofs.lemmas.Bool.{and_from, cond-true, cond-false, lt-ltb}
 use Rattle.std.proofs.lemmas.List.{places, length-drop, length-map, length-replicate, length-append, length-take-le, get_or-map, get_or-replicate, get_or-take, get_or-drop, get_or_append_left, get_or_push, set-get_or}

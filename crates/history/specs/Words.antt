@@ -1,5 +1,5 @@
 -- What can be read off a history, newest transition first.
-use Rattle.std.specs.Prelude.{◌≡◌, ℕ, ◌+◌, ◌^◌, ◌<◌, ◌≤◌, Bool, true, false, cond, not, ◌&&◌, ◌||◌, List, [], ◌∷◌, ◌++◌, map, length, Some, None, Ok, Err, filter, Option, Result, ◌==◌, bit_xor, nat_eq, slice_index, slice_index_or}
+use Rattle.std.specs.Prelude.{◌≡◌, ℕ, ◌+◌, ◌^◌, ◌<◌, ◌≤◌, Bool, true, false, cond, not, ◌&&◌, ◌||◌, List, [], ◌∷◌, ◌++◌, map, Some, None, Ok, Err, filter, Option, Result, ◌==◌, bit_xor, nat_eq, slice_index, slice_index_or}
 use Rattle.std.specs.List.{AllByRecursion as All}
 use Rattle.codes.specs.Ascii.{SOH, STX, ETX, DLE}
 use Rattle.codes.specs.Classes.{is_fill}
@@ -18,7 +18,7 @@ use Rattle.transmission.specs.Text.{taken}
 use Rattle.host.specs.Drawing.{drawn_all}
 use Rattle.host.specs.Carrying.{took}
 use Rattle.host.specs.Laws.{steps_before, first_transmission}
-use Rattle.reply.specs.Octets.{octets, checked}
+use Rattle.reply.specs.Octets.{octets}
 use Rattle.station.specs.declared.answer.Answer.{Answer}
 use Rattle.station.specs.declared.fault.Refusal.{Refusal}
 use Rattle.station.specs.declared.outstanding.Outstanding.{Outstanding}

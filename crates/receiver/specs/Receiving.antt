@@ -9,7 +9,6 @@ use Rattle.receiver.specs.declared.receive.Event.TheVariants.{Nothing, Begun, Me
 use Rattle.receiver.specs.declared.fault.Fault.{Fault}
 use Rattle.receiver.specs.declared.fault.Cause.{Cause}
 use Rattle.receiver.specs.declared.fault.Cause.TheVariants.{Receiver}
-use Rattle.receiver.specs.declared.fault.ReceiverFault.{ReceiverFault}
 use Rattle.receiver.specs.declared.fault.ReceiverFault.TheVariants.{TooLong, BlockCheck}
 use Rattle.receiver.specs.Check.{block_check}
 

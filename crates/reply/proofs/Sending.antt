@@ -1,5 +1,5 @@
 -- A reply's octets, part by part.
-use Rattle.std.proofs.Common.{◌≡◌, ℕ, ◌+◌, ◌%◌, ◌<◌, ◌≤◌, List, [], ◌∷◌, ◌++◌, map, length, get_or, take, set, replicate, sym, refl, ap, ◌∙◌, arith, length-append}
+use Rattle.std.proofs.Common.{◌≡◌, ℕ, ◌+◌, ◌%◌, ◌<◌, ◌≤◌, List, [], ◌∷◌, ◌++◌, length, get_or, take, set, replicate, sym, refl, ap, ◌∙◌, arith, length-append}
 use lib.Bits.{bit_xor}
 use lib.ListN.{length-replicate}
 use Rattle.std.proofs.lemmas.List.{append_assoc, append-nil, map-append, map_more, length-map, length-take-le, replicate_more}
@@ -11,7 +11,7 @@ use Rattle.area.proofs.Areas.{over_push, written_push, over_written}
 use Rattle.reply.specs.declared.begun.Begun.{Begun}
 use Rattle.reply.specs.declared.begun.Closed.{Closed}
 use Rattle.reply.specs.Octets.{lead, octets, so_far}
-use Rattle.reply.specs.Steps.{begun, closed, longer}
+use Rattle.reply.specs.Steps.{closed, longer}
 use Rattle.reply.specs.Progress.{Holds, Shows}
 use Rattle.reply.proofs.Sums.{check_append}
 

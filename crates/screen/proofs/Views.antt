@@ -1,5 +1,5 @@
 -- Reads and writes of a screen that is seen through a map of places.
-use Rattle.std.proofs.Common.{◌≡◌, ℕ, ◌*◌, ◌<◌, ◌≤◌, Bool, true, false, cond, ◌&&◌, ◌≢◌, ◌⊎◌, List, length, get_or, set, Ok, Err, Result, sym, refl, ap, ◌∙◌, subst, ⊎_elim, arith}
+use Rattle.std.proofs.Common.{◌≡◌, ℕ, ◌*◌, ◌<◌, ◌≤◌, Bool, true, false, cond, ◌&&◌, ◌≢◌, ◌⊎◌, List, length, get_or, set, Ok, Err, Result, sym, refl, ap, ◌∙◌, ⊎_elim, arith}
 use Rattle.std.proofs.lemmas.Bool.{ltb-true, ltb-false, lt-ltb, le-ltb, and_left, and_right, cond-false, cases_eq}
 use Rattle.std.proofs.lemmas.List.{ext_get_or, length-set, get_or-set_same, get_or-set_other}
 use Rattle.screen.specs.declared.refusal.Refusal.{Refusal}
@@ -8,7 +8,7 @@ use Rattle.screen.specs.Cells.{Cell, cell, blank, storable}
 use Rattle.screen.specs.Grid.{Grid, with_cells, has_place, writable, written, copied}
 use Rattle.screen.specs.Answers.{on_screen, done_if, parts, read_at}
 use Rattle.screen.proofs.Answers.{on_ok, on_err}
-use Rattle.screen.specs.View.{table, view, Into, length_table, get_or_table}
+use Rattle.screen.specs.View.{view, Into, length_table, get_or_table}
 
 -- a place beyond n cells: a read and a write are refused, and nothing changes
 off_place : (g : Grid) (p n : ℕ) → length g.cells ≡ n → n ≤ p → has_place g p ≡ false

@@ -1,5 +1,5 @@
 -- What a whole message is to do, and when it is refused.
-use Rattle.std.specs.Prelude.{ℕ, Bool, true, false, cond, ◌&&◌, ◌||◌, List, length, Some, None, Ok, Err, Option, Result, ◌==◌}
+use Rattle.std.specs.Prelude.{ℕ, Bool, true, false, cond, ◌&&◌, ◌||◌, List, Some, None, Ok, Err, Option, Result, ◌==◌}
 use Rattle.message.specs.Forms.{Form, poll, poll_acknowledge, repeat_request, text, Message, message_in}
 use Rattle.station.specs.declared.fault.MessageFault.{MessageFault}
 use Rattle.station.specs.declared.fault.MessageFault.TheVariants.{UnknownForm, OtherStation, NothingToRepeat}

@@ -1,5 +1,5 @@
 -- A terminal: a station behind a receiver and a line. What a key and an octet answer, write and leave.
-use Rattle.std.specs.Prelude.{ℕ, false, cond, List, [], None, Ok, Err, Result, nat_lt}
+use Rattle.std.specs.Prelude.{ℕ, false, cond, List, None, Ok, Err, Result, nat_lt}
 use Rattle.area.specs.declared.Refusal.TheVariants.{ShortArea}
 use Rattle.line.specs.Kind.{Kind}
 use Rattle.line.specs.Octet.{wanted}

@@ -1,5 +1,5 @@
 -- Rows in the first part of a list: what moves of whole rows leave.
-use Rattle.std.proofs.Common.{◌≡◌, ℕ, ◌+◌, ◌-◌, ◌*◌, ◌<◌, ◌≤◌, List, ◌++◌, length, get_or, take, drop, replicate, sym, refl, ap, ◌∙◌, arith, rules}
+use Rattle.std.proofs.Common.{◌≡◌, ℕ, ◌+◌, ◌-◌, ◌*◌, ◌≤◌, List, ◌++◌, length, take, drop, replicate, ap, ◌∙◌, arith, rules}
 use lib.Seq.{paste}
 use Rattle.std.proofs.lemmas.List.{places, same_lists}
 use Rattle.screen.specs.Rows.{clear_row, remove_row, insert_row}

@@ -1,5 +1,5 @@
 -- What reads, writes and row moves of the words make of the cells.
-use Rattle.std.proofs.Common.{◌≡◌, ℕ, ◌+◌, ◌*◌, ◌/◌, ◌%◌, ◌<◌, ◌≤◌, Bool, true, false, eqb, ◌≢◌, List, map, length, get_or, take, drop, set, replicate, Ok, Result, sym, refl, ap, ◌∙◌, ⊎_elim, arith}
+use Rattle.std.proofs.Common.{◌≡◌, ℕ, ◌+◌, ◌*◌, ◌/◌, ◌%◌, ◌<◌, ◌≤◌, Bool, true, false, eqb, ◌≢◌, List, map, length, get_or, take, drop, set, replicate, Ok, Result, sym, ap, ◌∙◌, ⊎_elim, arith}
 use lib.Seq.{paste, take-set-lt}
 use Rattle.std.proofs.lemmas.Bool.{cases_eq}
 use Rattle.std.proofs.lemmas.List.{places, ext_get_or, length-replicate, get_or-set_same, get_or-set_other, get_or-replicate, map-set}

@@ -4,7 +4,6 @@ use Rattle.std.proofs.Common.{sym, ◌∙◌, ap, subst, arith}
 use Rattle.std.proofs.lemmas.List.{length-map, length-take-le, get_or-map, get_or-take}
 use Rattle.screen.specs.Cells.{Cell, cell, blank, storable}
 use Rattle.screen.specs.Grid.{Grid, Sound}
-use Rattle.screen.specs.View.{Sized}
 use Rattle.stores.specs.Size.{allowed, allowed_sized}
 
 -- the character in the low eight bits of a word, and the protection in the bit above

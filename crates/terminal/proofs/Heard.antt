@@ -1,5 +1,5 @@
 -- The two ways of an octet that is taken: line and receiver refuse it, or the terminal answers what they heard.
-use Rattle.std.proofs.Common.{◌≡◌, ℕ, List, Ok, Err, Result, refl, ap, arith}
+use Rattle.std.proofs.Common.{◌≡◌, ℕ, List, Ok, Err, Result, ap, arith}
 use Rattle.line.specs.Kind.{Kind}
 use Rattle.receiver.specs.declared.fault.Fault as below
 use Rattle.receiver.specs.declared.receive.Event.{Event}

@@ -1,5 +1,5 @@
 -- What a caller sees of an event is what the definition says: no reply to a key, and the reply to an octet in the area.
-use Rattle.std.proofs.Common.{◌≡◌, ℕ, cond, ltb, List, [], ◌++◌, length, take, drop, Ok, Err, Result, sym, refl, ap, ◌∙◌}
+use Rattle.std.proofs.Common.{◌≡◌, ℕ, ltb, List, length, take, drop, Ok, Err, Result, sym, refl, ap, ◌∙◌}
 use Rattle.std.proofs.lemmas.Bool.{cond_both}
 use lib.Seq.{take-append_seam}
 use Rattle.area.specs.Over.{over}

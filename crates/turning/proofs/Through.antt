@@ -1,5 +1,5 @@
 -- Places through the order.
-use Rattle.std.proofs.Common.{◌≡◌, ℕ, ◌+◌, ◌*◌, ◌/◌, ◌%◌, ◌<◌, ◌≤◌, Bool, true, false, ◌&&◌, ltb, List, length, get_or, Ok, Err, Result, sym, refl, ap, ◌∙◌, subst, arith}
+use Rattle.std.proofs.Common.{◌≡◌, ℕ, ◌+◌, ◌*◌, ◌/◌, ◌%◌, ◌<◌, false, ltb, List, length, get_or, Ok, Err, Result, sym, ap, ◌∙◌, subst, arith}
 use Rattle.std.proofs.lemmas.Bool.{ltb-true, lt-ltb, and_from}
 use Rattle.std.proofs.lemmas.Nat.{div_below, mod_below}
 use Rattle.screen.specs.declared.refusal.Refusal.{Refusal}
@@ -9,7 +9,7 @@ use Rattle.screen.specs.Answers.{on_screen, split_at, place_at}
 use Rattle.screen.specs.View.{Into, length_table}
 use Rattle.screen.proofs.Answers.{on_ok, on_err}
 use Rattle.turning.specs.Order.{under, turned_by, Permutes, fitted, fitted_permutes, under_into}
-use Rattle.turning.proofs.Turned.{Reads, reads_fitted, reads_permutes}
+use Rattle.turning.proofs.Turned.{Reads, reads_fitted}
 
 -- as many cells are shown as there are below
 pub length_turned : (at : List ℕ) (n : ℕ) (g : Grid) → Sound g → length (turned_by at n g).cells ≡ length g.cells

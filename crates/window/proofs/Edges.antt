@@ -1,12 +1,12 @@
 -- Places through a window, and what a write leaves outside it.
-use Rattle.std.proofs.Common.{◌≡◌, ℕ, ◌+◌, ◌*◌, ◌/◌, ◌%◌, ◌<◌, ◌≤◌, min, Bool, true, false, cond, ◌&&◌, ltb, ◌≢◌, List, length, get_or, set, Ok, Err, Result, sym, refl, ap, ◌∙◌, subst, ⊎_elim, arith}
+use Rattle.std.proofs.Common.{◌≡◌, ℕ, ◌+◌, ◌*◌, ◌/◌, ◌%◌, ◌<◌, ◌≤◌, min, Bool, true, cond, ltb, ◌≢◌, List, length, get_or, set, Ok, Err, Result, sym, refl, ap, ◌∙◌, subst, ⊎_elim, arith}
 use Rattle.std.proofs.lemmas.Nat.{div_below, mod_below, div-mul-add, mod-mul-add}
 use Rattle.std.proofs.lemmas.Bool.{lt-ltb, le-ltb, cond-true, cases_eq, and_from, cond_both}
 use Rattle.std.proofs.lemmas.List.{ext_get_or, length-set, get_or-set_other}
 use Rattle.screen.specs.declared.refusal.Refusal.{Refusal}
 use Rattle.screen.specs.declared.refusal.Refusal.TheVariants.{OffScreen}
 use Rattle.screen.specs.Cells.{Cell, cell, blank}
-use Rattle.screen.specs.Grid.{Grid, Sound, with_cells, has_place, has_row, writable, written}
+use Rattle.screen.specs.Grid.{Grid, Sound, with_cells, has_place, writable, written}
 use Rattle.screen.specs.Answers.{on_screen, place_at}
 use Rattle.screen.specs.View.{table, Into, length_table, get_or_table}
 use Rattle.screen.proofs.Views.{found}

@@ -1,4 +1,4 @@
-use Rattle.std.proofs.Common.{◌≡◌, ◌+◌, length, sym, ap, arith}
+use Rattle.std.proofs.Common.{◌+◌, length, sym, ap, arith}
 use Rattle.page.proofs.Numerals.{small_number, large_number}
 use Rattle.page.proofs.Writing.{put_small, put_large}
 use Rattle.page.proofs.number.put_number.Goals as goal

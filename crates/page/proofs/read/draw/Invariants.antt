@@ -1,4 +1,4 @@
-use Rattle.std.proofs.Common.{◌≡◌, List, length}
+use Rattle.std.proofs.Common.{◌≡◌, List}
 use Rattle.screen.specs.Cells.{Cell}
 use Rattle.page.proofs.Drawing.{Drawing}
 use Rattle.page.specs.Walk.{rest_of}

@@ -1,6 +1,5 @@
 use Rattle.std.proofs.Common.{◌≡◌, ◌*◌, ◌≤◌, length, take}
 use Rattle.std.specs.List.{flat_map}
-use Rattle.area.specs.Over.{over}
 use Rattle.page.specs.Numbers.{number}
 use Rattle.page.specs.Pages.{page_numbers}
 use Rattle.page.specs.Calls.{page_at}

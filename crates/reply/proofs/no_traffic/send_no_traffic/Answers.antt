@@ -1,4 +1,4 @@
-use Rattle.std.proofs.Common.{◌≡◌, ℕ, ◌+◌, List, [], ap, ◌∙◌, arith}
+use Rattle.std.proofs.Common.{◌≡◌, ◌+◌, [], ap, ◌∙◌, arith}
 use Rattle.reply.specs.declared.begun.Begun.{Begun}
 use Rattle.reply.specs.Octets.{no_traffic}
 use Rattle.reply.specs.Steps.{closed}

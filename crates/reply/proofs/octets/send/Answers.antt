@@ -1,4 +1,4 @@
-use Rattle.std.proofs.Common.{◌≡◌, ◌+◌, take, set, refl, ap, ◌∙◌, arith}
+use Rattle.std.proofs.Common.{◌+◌, take, set, refl, ap, ◌∙◌, arith}
 use Rattle.std.proofs.lemmas.List.{take_all}
 use Rattle.area.specs.Over.{written_at}
 use Rattle.area.proofs.Areas.{written_none}

@@ -1,4 +1,4 @@
-use Rattle.std.proofs.Common.{◌≡◌, true, false, not, ◌&&◌, None, Ok, ap, ◌∙◌}
+use Rattle.std.proofs.Common.{true, false, not, ◌&&◌, None, Ok, ap, ◌∙◌}
 use Rattle.text.specs.Steps.{steps_of}
 use Rattle.edit.specs.View.{at}
 use Rattle.host.specs.Drawing.{drawn_all}

@@ -1,8 +1,7 @@
-use Rattle.std.proofs.Common.{◌≡◌, Ok, Result, rules, ap}
+use Rattle.std.proofs.Common.{◌≡◌, Ok, rules, ap}
 use Rattle.area.specs.Over.{over}
-use Rattle.station.specs.declared.fault.MessageFault.{MessageFault}
 use Rattle.station.specs.Meaning.{station_of}
-use Rattle.station.specs.Messages.{MessageAction, carry_out, decide_message}
+use Rattle.station.specs.Messages.{carry_out, decide_message}
 use Rattle.station.specs.Station.{message_outcome}
 use Rattle.terminal.proofs.obey.obey.Goals as goal
 

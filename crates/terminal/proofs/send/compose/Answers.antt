@@ -1,4 +1,4 @@
-use Rattle.std.proofs.Common.{◌≡◌, ℕ, List, [], ◌∷◌, ◌++◌, Ok, ap, ◌∙◌, subst}
+use Rattle.std.proofs.Common.{◌≡◌, ℕ, List, [], ◌∷◌, ◌++◌, Ok, ap, subst}
 use Rattle.std.proofs.lemmas.List.{append_assoc}
 use Rattle.codes.specs.Ascii.{ETX}
 use Rattle.reply.specs.Octets.{SOHFirst}

@@ -1,4 +1,4 @@
-use Rattle.std.proofs.Common.{◌≡◌, ◌-◌, ◌≤◌}
+use Rattle.std.proofs.Common.{◌≡◌, ◌≤◌}
 use Rattle.transmission.specs.Text.{start_at}
 use Rattle.transmission.proofs.take.start_at.Given as goal
 

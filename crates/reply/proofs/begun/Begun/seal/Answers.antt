@@ -1,4 +1,4 @@
-use Rattle.std.proofs.Common.{◌≡◌, ◌+◌, [], ◌∷◌, set, refl, ap, ◌∙◌, arith}
+use Rattle.std.proofs.Common.{◌≡◌, [], ◌∷◌, set, refl, ap, ◌∙◌, arith}
 use Rattle.area.specs.Over.{written_at}
 use Rattle.area.proofs.Areas.{written_one}
 use Rattle.reply.specs.Octets.{octets}

@@ -1,4 +1,4 @@
-use Rattle.std.proofs.Common.{◌≡◌, ◌*◌, ◌<◌, refl, ◌∙◌, arith}
+use Rattle.std.proofs.Common.{◌*◌, ◌<◌, refl, ◌∙◌, arith}
 use Rattle.screen.proofs.Grids.{row_fits, row_done, clear_none, clear_more, clear_all}
 use Rattle.screen.proofs.interface.Screen.clear_row.Goals as goal
 

@@ -1,4 +1,4 @@
-use Rattle.std.proofs.Common.{◌≡◌, ◌-◌, ◌*◌, ◌<◌, sym, refl, ap, ◌∙◌, arith}
+use Rattle.std.proofs.Common.{◌-◌, ◌*◌, ◌<◌, refl, ap, ◌∙◌, arith}
 use Rattle.screen.specs.Grid.{Grid}
 use Rattle.screen.specs.Answers.{done_if}
 use Rattle.screen.proofs.Grids.{rows_fit, rows_on, lower_none, lower_more, lower_all}

@@ -1,4 +1,4 @@
-use Rattle.std.proofs.Common.{◌≡◌, ◌*◌, ◌/◌, ◌<◌, length, refl, arith}
+use Rattle.std.proofs.Common.{◌≡◌, length, refl, arith}
 use Rattle.screen.proofs.Grids.{row_done}
 use Rattle.stores.specs.Maps.{map_grid}
 use Rattle.stores.proofs.Maps.{map_cleared}

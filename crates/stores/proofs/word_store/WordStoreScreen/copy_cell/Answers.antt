@@ -1,4 +1,4 @@
-use Rattle.std.proofs.Common.{◌≡◌, ◌*◌, ◌≤◌, length, get_or, set, sym, refl, ap, inl, inr, arith}
+use Rattle.std.proofs.Common.{◌*◌, ◌≤◌, length, get_or, set, sym, refl, ap, inl, inr, arith}
 use Rattle.std.proofs.lemmas.List.{drop-set-lt, length-set}
 use Rattle.screen.specs.Answers.{done_if}
 use Rattle.screen.proofs.Grids.{copy_done}

@@ -1,5 +1,3 @@
-use Rattle.std.proofs.Common.{sym, ap}
-use Rattle.station.specs.Terminal.{keyed}
 use Rattle.history.specs.Trace.{key}
 use Rattle.history.proofs.Lawful.{follows}
 use Rattle.terminal.specs.Meaning.{state_of}

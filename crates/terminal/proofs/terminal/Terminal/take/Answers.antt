@@ -1,4 +1,4 @@
-use Rattle.std.proofs.Common.{◌≡◌, ℕ, List, Ok, sym, ap, ◌∙◌}
+use Rattle.std.proofs.Common.{◌≡◌, ℕ, List, Ok, ap, ◌∙◌}
 use Rattle.receiver.specs.Hearing.{hear}
 use Rattle.receiver.specs.Receiving.{Next}
 use Rattle.receiver.specs.Meaning.{message_of}

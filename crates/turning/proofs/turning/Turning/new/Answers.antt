@@ -1,4 +1,4 @@
-use Rattle.std.proofs.Common.{◌≡◌, ℕ, List, sym, refl, ap, ◌∙◌, subst, arith}
+use Rattle.std.proofs.Common.{ℕ, List, sym, refl, ap, ◌∙◌, subst, arith}
 use Rattle.turning.specs.Order.{turned, Permutes, natural_permutes}
 use Rattle.turning.proofs.Turned.{fitted_own, turned_natural}
 use Rattle.turning.proofs.turning.Turning.new.Goals as goal

@@ -1,7 +1,7 @@
-use Rattle.std.proofs.Common.{◌≡◌, ℕ, ◌-◌, ◌<◌, ◌≤◌, sym, refl, ap, ◌∙◌, subst, arith}
+use Rattle.std.proofs.Common.{refl, ap, ◌∙◌, arith}
 use Rattle.screen.specs.Answers.{done_if}
 use Rattle.screen.proofs.Grids.{rows_on}
-use Rattle.turning.specs.Order.{turned_by, Permutes}
+use Rattle.turning.specs.Order.{turned_by}
 use Rattle.turning.proofs.Turned.{Reads, reads_permutes, row_below_on, clear_through}
 use Rattle.turning.proofs.turning.TurningScreen.clear_row.Goals as goal
 

@@ -1,4 +1,4 @@
-use Rattle.std.proofs.Common.{◌≡◌, ℕ, ◌-◌, ◌<◌, ◌≤◌, sym, refl, ap, ◌∙◌, subst, arith}
+use Rattle.std.proofs.Common.{ℕ, ◌-◌, ◌<◌, sym, refl, ap, ◌∙◌, subst, arith}
 use Rattle.screen.specs.Answers.{done_if}
 use Rattle.screen.proofs.Grids.{rows_on}
 use Rattle.turning.specs.Order.{turned_by, Permutes}
