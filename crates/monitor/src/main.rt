@@ -11,6 +11,7 @@ use run::run;
 use session::Report;
 use std::env;
 use std::io::{BufWriter, Write};
+use std::process::ExitCode;
 
 const USAGE: &str = "usage: monitor [--messages] < SCRIPT
 Reads a script of line octets and prints one line for each octet; with --messages, one line
@@ -40,8 +41,9 @@ fn asked(rt: &HostRuntime) -> Option<Wanted> {
     Some(wanted)
 }
 
-fn main(rt: HostRuntime) -> Result<(), ()> {
-    let report = match asked(&rt) {
+// Prints what the arguments ask for; an Err where something went wrong, which standard error then tells.
+fn answer(rt: &HostRuntime) -> Result<(), ()> {
+    let report = match asked(rt) {
         Some(Wanted::Report(report)) => report,
         Some(Wanted::Help) => return said(rt.println(USAGE).is_ok()),
         None => {
@@ -63,6 +65,13 @@ fn main(rt: HostRuntime) -> Result<(), ()> {
         return Err(());
     }
     said(flushed.is_ok())
+}
+
+fn main(rt: HostRuntime) -> ExitCode {
+    match answer(&rt) {
+        Ok(()) => ExitCode::SUCCESS,
+        Err(()) => ExitCode::FAILURE,
+    }
 }
 
 fn said(written: bool) -> Result<(), ()> {

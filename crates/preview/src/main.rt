@@ -11,6 +11,7 @@ use script::number::size;
 use session::run;
 use std::fmt::Display;
 use std::io::{BufWriter, Write};
+use std::process::ExitCode;
 use std::{env, fs};
 use stores::size::Size;
 
@@ -93,21 +94,29 @@ fn script(rt: &HostRuntime) -> Result<(), ()> {
     }
 }
 
-fn main(rt: HostRuntime) -> Result<(), ()> {
-    let Ok(mut args) = env::args(&rt) else {
-        return complain(&rt, "the arguments are no text");
+// Does what the arguments ask for; an Err where something went wrong, which standard error then tells.
+fn answer(rt: &HostRuntime) -> Result<(), ()> {
+    let Ok(mut args) = env::args(rt) else {
+        return complain(rt, "the arguments are no text");
     };
     let _ = args.next();
     let Some(file) = args.next() else {
-        return script(&rt);
+        return script(rt);
     };
     let named = args.next();
     if args.next().is_some() {
-        return complain(&rt, USAGE);
+        return complain(rt, USAGE);
     }
     if file.as_str() == "--help" {
         let _ = rt.println(USAGE);
         return Ok(());
     }
-    show(&rt, file, named)
+    show(rt, file, named)
+}
+
+fn main(rt: HostRuntime) -> ExitCode {
+    match answer(&rt) {
+        Ok(()) => ExitCode::SUCCESS,
+        Err(()) => ExitCode::FAILURE,
+    }
 }
