@@ -1,6 +1,6 @@
 -- Keys leave every protected cell as it was, and make none.
 use Rattle.std.proofs.Common.{◌≡◌, ℕ, zero, suc, ◌+◌, ◌-◌, ◌≤◌, true, false, ltb, List, [], ◌∷◌, ◌++◌, map, length, get_or, take, drop, set, replicate, Some, None, sym, refl, ap, ◌∙◌, subst, ⊎_elim, not-suc-le-zero, one-add, arith}
-use Rattle.std.specs.List.{prefix_len, AllByRecursion as All}
+use Rattle.std.specs.List.{prefix_len, AllByRecursion}
 use Rattle.std.proofs.lemmas.Bool.{cond-false, cond_both, not-true, cases_lt, false≢true}
 use Rattle.std.proofs.lemmas.List.{map-append, map-set, get_or-map, set-get_or, take-append-drop, drop-drop, set_past, get_or-drop, take-take, length-take}
 use Rattle.std.proofs.lemmas.List.Sums.{prefix_len-le-length}
@@ -34,7 +34,7 @@ captions_changed p n f cs h =
     ∙ sym (map-append caption (take p cs) (x ++ y))
     ∙ ap (map caption) (whole p n cs)
 
-none_open : (cs : List Cell) → All Open cs → map caption cs ≡ replicate (length cs) None
+none_open : (cs : List Cell) → AllByRecursion Open cs → map caption cs ≡ replicate (length cs) None
 none_open [] a = refl
 none_open (c ∷ cs) a =
     let e : caption c ≡ None = cond-false c.protected (Some c.code) None a.0 in
@@ -42,22 +42,22 @@ none_open (c ∷ cs) a =
     cc
 
 -- the run is open
-leading_open : (n : ℕ) (cs : List Cell) → n ≤ prefix_len is_open cs → All Open (take n cs)
+leading_open : (n : ℕ) (cs : List Cell) → n ≤ prefix_len is_open cs → AllByRecursion Open (take n cs)
 leading_open zero cs h = tt
 leading_open (suc n) [] h = absurd (not-suc-le-zero h)
 leading_open (suc n) (c ∷ cs) h =
-    (cond_both (is_open c) (1 + prefix_len is_open cs) 0 (λ z. suc n ≤ z → All Open (c ∷ take n cs))
+    (cond_both (is_open c) (1 + prefix_len is_open cs) 0 (λ z. suc n ≤ z → AllByRecursion Open (c ∷ take n cs))
     (λ e l. (not-true c.protected e, leading_open n cs (omega arith)))
     (λ _ l. absurd (not-suc-le-zero l))) h
 
-run_open : (r : Reach) (v : View) → All Open (take (run r v) (drop v.cursor v.grid.cells))
+run_open : (r : Reach) (v : View) → AllByRecursion Open (take (run r v) (drop v.cursor v.grid.cells))
 run_open r v =
     let cs = drop v.cursor v.grid.cells in
     let near = take (room r v) cs in
     let short : run r v ≤ room r v = omega (arith, prefix_len-le-length is_open near, length-take (room r v) cs) in
-    subst (All Open) (take-take (run r v) (room r v) cs short) (leading_open (run r v) near (omega arith))
+    subst (AllByRecursion Open) (take-take (run r v) (room r v) cs short) (leading_open (run r v) near (omega arith))
 
-run_captions : (r : Reach) (v : View) (f : List Cell → List Cell) → ((cs : List Cell) → length (f cs) ≡ length cs) → ((cs : List Cell) → All Open cs → All Open (f cs)) → captions (redraw v.grid v.cursor (run r v) f) ≡ captions v.grid
+run_captions : (r : Reach) (v : View) (f : List Cell → List Cell) → ((cs : List Cell) → length (f cs) ≡ length cs) → ((cs : List Cell) → AllByRecursion Open cs → AllByRecursion Open (f cs)) → captions (redraw v.grid v.cursor (run r v) f) ≡ captions v.grid
 run_captions r v f l o =
     let x = take (run r v) (drop v.cursor v.grid.cells) in
     captions_changed v.cursor (run r v) f v.grid.cells

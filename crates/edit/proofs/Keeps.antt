@@ -1,6 +1,6 @@
 -- Edits and writing leave a screen with the cursor on it.
 use Rattle.std.proofs.Common.{◌≡◌, ℕ, zero, suc, ◌+◌, ◌-◌, ◌*◌, ◌/◌, ◌%◌, ◌<◌, ◌≤◌, Bool, true, false, cond, ◌&&◌, ltb, List, [], ◌∷◌, ◌++◌, length, take, drop, set, replicate, sym, refl, ap, ◌∙◌, arith}
-use Rattle.std.specs.List.{AllByRecursion as All}
+use Rattle.std.specs.List.{AllByRecursion}
 use Rattle.std.proofs.lemmas.Bool.{cond_both, and_parts, ltb-true}
 use Rattle.std.proofs.lemmas.List.{length-append, length-take, length-drop, length-replicate, length-set}
 use Rattle.std.proofs.ByRecursion.{All-get_or, All-from_get_or, All-append, All-take, All-drop, All-set, All-push, All-map, All-weaker}
@@ -27,21 +27,21 @@ use Rattle.edit.proofs.PartsDrawn.{length_erased, length_open_erased, length_del
 abbrev Storable : Cell → Type 0
 Storable c = storable c.code ≡ true
 
-all_blank : (P : Cell → Type 0) → P blank → (n : ℕ) → All P (replicate n blank)
+all_blank : (P : Cell → Type 0) → P blank → (n : ℕ) → AllByRecursion P (replicate n blank)
 all_blank P b zero = tt
 all_blank P b (suc n) = (b, all_blank P b n)
 
 -- what each change of a part keeps of its cells
-pub all_erased : (P : Cell → Type 0) → P blank → (cs : List Cell) → All P cs → All P (erased cs)
+pub all_erased : (P : Cell → Type 0) → P blank → (cs : List Cell) → AllByRecursion P cs → AllByRecursion P (erased cs)
 all_erased P b cs a = all_blank P b (length cs)
 
-pub all_deleted : (P : Cell → Type 0) → P blank → (cs : List Cell) → All P cs → All P (deleted cs)
+pub all_deleted : (P : Cell → Type 0) → P blank → (cs : List Cell) → AllByRecursion P cs → AllByRecursion P (deleted cs)
 all_deleted P b cs a = All-drop P 1 (cs ++ (blank ∷ [])) (All-push P cs blank a b)
 
-pub all_pushed : (P : Cell → Type 0) → P blank → (cs : List Cell) → All P cs → All P (pushed cs)
+pub all_pushed : (P : Cell → Type 0) → P blank → (cs : List Cell) → AllByRecursion P cs → AllByRecursion P (pushed cs)
 all_pushed P b cs a = All-take P (length cs) (blank ∷ cs) (b, a)
 
-all_open_erased : (cs : List Cell) → All Storable cs → All Storable (open_erased cs)
+all_open_erased : (cs : List Cell) → AllByRecursion Storable cs → AllByRecursion Storable (open_erased cs)
 all_open_erased cs a =
     All-map Storable emptied cs (All-weaker Storable (λ c. Storable (emptied c)) (λ c h. cond_both c.protected c blank Storable (λ _. h) (λ _. space_storable)) cs a)
 
@@ -51,11 +51,11 @@ length_changed p n f cs h =
     simp (length-append, e, length-take, length-drop) (omega arith)
 
 module _ (g : Grid) (s : Sound g) where
-  all_stored : All Storable g.cells
+  all_stored : AllByRecursion Storable g.cells
   all_stored = All-from_get_or Storable g.cells blank s.stored
 
   -- other cells, as many and all of them storable
-  with_sound : (cs : List Cell) → length cs ≡ size g → All Storable cs → Sound (with_cells g cs)
+  with_sound : (cs : List Cell) → length cs ≡ size g → AllByRecursion Storable cs → Sound (with_cells g cs)
   with_sound cs l a = record {
     row_least = s.row_least;
     row_most = s.row_most;
@@ -65,7 +65,7 @@ module _ (g : Grid) (s : Sound g) where
     stored = λ k h. All-get_or Storable cs k blank h a;
   }
 
-  redraw_sound : (p n : ℕ) (f : List Cell → List Cell) → ((xs : List Cell) → length (f xs) ≡ length xs) → ((xs : List Cell) → All Storable xs → All Storable (f xs)) → Sound (redraw g p n f)
+  redraw_sound : (p n : ℕ) (f : List Cell → List Cell) → ((xs : List Cell) → length (f xs) ≡ length xs) → ((xs : List Cell) → AllByRecursion Storable xs → AllByRecursion Storable (f xs)) → Sound (redraw g p n f)
   redraw_sound p n f l a =
       with_sound (changed p n f g.cells) (length_changed p n f g.cells l)
       (All-append Storable (take p g.cells) _ (All-take Storable p g.cells all_stored)

@@ -1,6 +1,6 @@
 -- A damaged message in a history has no effect.
 use Rattle.std.proofs.Common.{◌≡◌, ℕ, ltb, List, [], ◌∷◌, ◌++◌, Ok, Err, Result, sym, refl, subst}
-use Rattle.std.specs.List.{AllByRecursion as All}
+use Rattle.std.specs.List.{AllByRecursion}
 use Rattle.std.proofs.lemmas.Bool.{cond_both, le-ltb}
 use Rattle.line.specs.Kind.{Kind, GivesBack, DetectsOneBit, InRange}
 use Rattle.receiver.specs.declared.receive.Event as receive
@@ -71,10 +71,10 @@ module _ (k : Kind) where
       leads_before (x ∷ newer) past t l = leads_before newer past x.before l.0
 
       -- transitions whose octets complete no message: line and receiver have heard these octets, and none had an effect
-      segment : (xs past : List Transition) (t : State) → Leads k id first (xs ++ past) t → All (λ x. Taken x.event) xs
+      segment : (xs past : List Transition) (t : State) → Leads k id first (xs ++ past) t → AllByRecursion (λ x. Taken x.event) xs
           → NoneCompleted k (front_of (began xs t)) (octets_in xs)
           → (front_of t ≡ heard_all k (front_of (began xs t)) (octets_in xs))
-          × All (λ x. WithoutEffect x.event x.before x.outcome.reply x.outcome.after) xs
+          × AllByRecursion (λ x. WithoutEffect x.event x.before x.outcome.reply x.outcome.after) xs
       segment [] past t l a n = (refl, tt)
       segment (x ∷ xs) past t l a n =
           let parts = none_completed_parts (front_of (began xs x.before)) (octets_in xs) (octet_in x.event) n in

@@ -1,6 +1,6 @@
 -- The invariant of every state that is reached; a new terminal has it.
 use Rattle.std.proofs.Common.{◌≡◌, ℕ, zero, suc, ◌+◌, Bool, List, [], get_or, replicate, Option, refl, arith}
-use Rattle.std.specs.List.{AllByRecursion as All}
+use Rattle.std.specs.List.{AllByRecursion}
 use Rattle.line.specs.Kind.{Kind}
 use Rattle.screen.specs.Cells.{blank}
 use Rattle.edit.specs.View.{View}
@@ -23,7 +23,7 @@ pub record Shown (left : ℕ → Option ℕ) (v : View) : Type 0 where
 pub record Consistent (last : Option (List ℕ)) (carried : Bool) (d : Console) : Type 0 where
   pub holds : Holds d.held last d.locked
   pub backed : Backed d.outstanding d.held
-  pub calls : All Plain (call_code d.call)
+  pub calls : AllByRecursion Plain (call_code d.call)
   pub due : d.due ≡ carried
 
 -- a station after a history

@@ -2,7 +2,7 @@
 use Rattle.std.proofs.Common.{◌≡◌, ℕ, Bool, false, ltb, List, [], ◌∷◌, IfOk, Some, None, Ok, Err, Option, Result, refl, subst, arith}
 use mathlib.Core.Bool.{and-false}
 use lib.ListN.{get_or-map}
-use Rattle.std.specs.List.{AllByRecursion as All}
+use Rattle.std.specs.List.{AllByRecursion}
 use Rattle.std.proofs.lemmas.Bool.{cond_both}
 use Rattle.line.specs.Kind.{Kind, GivesBack, DetectsOneBit, InRange}
 use Rattle.receiver.specs.declared.fault.Fault as below
@@ -59,7 +59,7 @@ same_captions left v w shown on same = record {
 }
 
 -- what a host text's transmission takes is plain
-taking_plain : (ss : List Step) (v : View) → OnScreen v → (t : List ℕ) → taking false ss v ≡ Some t → All Plain t
+taking_plain : (ss : List Step) (v : View) → OnScreen v → (t : List ℕ) → taking false ss v ≡ Some t → AllByRecursion Plain t
 taking_plain ss v on t e =
     let there = drawn_all_on false (steps_before ss) v on in
     let same = taken_before false ss v in

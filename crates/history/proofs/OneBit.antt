@@ -1,7 +1,7 @@
 -- A message with one bit changed completes no message at line and receiver.
 use Rattle.std.proofs.Common.{◌≡◌, ℕ, ◌%◌, ◌^◌, ◌<◌, true, false, eqb, leb, List, [], ◌∷◌, ◌++◌, length, Some, None, Ok, Err, Option, Result, sym, refl, ap, subst₂, mod-eq_of_lt, arith}
 use lib.Bits.{bit_xor}
-use Rattle.std.specs.List.{AllByRecursion as All}
+use Rattle.std.specs.List.{AllByRecursion}
 use Rattle.std.proofs.lemmas.Bool.{cond_both, both_ways, true≢false}
 use Rattle.codes.specs.Ascii.{SOH, ETX}
 use Rattle.codes.specs.declared.class.Class.{Class}
@@ -148,7 +148,7 @@ module _ (k : Kind) where
         ((heard_unfinished f (sent c) (ap is_awaiting i)).0, rest (heard f (sent c)) (heard_idle f (sent c) n i))
 
     -- what follows SOH in a message whose check is s
-    rest_ignored : (s : ℕ) (body : List ℕ) → All Inner body → IgnoredFromIdle (octets k (body ++ (ETX ∷ s ∷ [])))
+    rest_ignored : (s : ℕ) (body : List ℕ) → AllByRecursion Inner body → IgnoredFromIdle (octets k (body ++ (ETX ∷ s ∷ [])))
     rest_ignored s [] a = more_ignored ETX (sent s ∷ []) (gives_other ETX SOH (omega arith) refl) (check_ignored s)
     rest_ignored s (c ∷ body) a = more_ignored c _ (gives_other c SOH a.0.seven a.0.no_SOH) (rest_ignored s body a.1)
 
@@ -167,7 +167,7 @@ module _ (k : Kind) where
         ((heard_unfinished f (sent ETX) a).0, changed_ignored s [] (λ _ _. tt) b l (heard f (sent ETX)) (heard_keeps f (sent ETX) i))
     end_damaged s _ (later (later d)) f i a = elim d [ ]
 
-    rest_damaged : (s : ℕ) (body : List ℕ) → All Inner body → IgnoredIfDamaged (octets k (body ++ (ETX ∷ s ∷ [])))
+    rest_damaged : (s : ℕ) (body : List ℕ) → AllByRecursion Inner body → IgnoredIfDamaged (octets k (body ++ (ETX ∷ s ∷ [])))
     rest_damaged s [] a = end_damaged s
     rest_damaged s (c ∷ body) a =
         more_damaged c _ (gives_other c ETX a.0.seven a.0.no_ETX) (rest_ignored s body a.1) (rest_damaged s body a.1)

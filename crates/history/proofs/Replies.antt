@@ -1,6 +1,6 @@
 -- What a reply's characters show, its acknowledgement and its text, and what a poll leaves held, outstanding and due.
 use Rattle.std.proofs.Common.{◌≡◌, ℕ, zero, suc, ◌+◌, ◌%◌, Bool, true, false, cond, not, ◌&&◌, List, [], ◌∷◌, ◌++◌, map, replicate, Some, None, Option, refl, mod-eq_of_lt, arith}
-use Rattle.std.specs.List.{AllByRecursion as All}
+use Rattle.std.specs.List.{AllByRecursion}
 use Rattle.std.proofs.lemmas.List.{append_assoc, map-append}
 use Rattle.std.proofs.lemmas.Bool.{ne_eqb, cond_both, false≢true}
 use Rattle.codes.specs.Ascii.{SOH, STX, ETX, EOT, ENQ, DLE, SYN}
@@ -19,7 +19,7 @@ use Rattle.history.specs.Words.{held_count, up_to_ETX, text_sent, has_acknowledg
 -- a held text is the last one taken, keeps the keyboard locked, and is plain
 abbrev pub Holds : Option (List ℕ) → Option (List ℕ) → Bool → Type 0
 Holds None last locked = Unit {0}
-Holds (Some t) last locked = (locked ≡ true) × (last ≡ Some t) × All Plain t
+Holds (Some t) last locked = (locked ≡ true) × (last ≡ Some t) × AllByRecursion Plain t
 
 -- what an outstanding reply carried is still held
 abbrev pub Backs : Load → Option (List ℕ) → Type 0
@@ -49,12 +49,12 @@ pub record Polled (k : Kind) (a : Bool) (d : Console) (r : Spoken) (last : Optio
   -- what was so before the poll is so after it
   pub holds : Holds r.console.held last r.console.locked
   pub backed : Backed r.console.outstanding r.console.held
-  pub calls : All Plain (call_code r.console.call)
+  pub calls : AllByRecursion Plain (call_code r.console.call)
   -- a text that was held is acknowledged or still held
   pub counts : held_count d.held ≡ cond (acknowledges_text a d.outstanding) 1 0 + held_count r.console.held
 
 -- plain characters in front show nothing
-after_plain : {acks : Bool} {last : Option (List ℕ)} (xs : List ℕ) {ys : List ℕ} → All Plain xs → Says ys acks last → Says (xs ++ ys) acks last
+after_plain : {acks : Bool} {last : Option (List ℕ)} (xs : List ℕ) {ys : List ℕ} → AllByRecursion Plain xs → Says ys acks last → Says (xs ++ ys) acks last
 after_plain [] p s = s
 after_plain (x ∷ xs) p s =
     let r = after_plain xs p.1 s in
@@ -65,7 +65,7 @@ end_says : {last : Option (List ℕ)} (check : ℕ) → Says (ETX ∷ check ∷ 
 end_says check = record { acknowledgement = grind arith; text = λ t e. grind arith }
 
 -- a plain text is what stands before the first ETX
-up_to_plain : (xs ys : List ℕ) → All Plain xs → up_to_ETX (xs ++ (ETX ∷ ys)) ≡ Some xs
+up_to_plain : (xs ys : List ℕ) → AllByRecursion Plain xs → up_to_ETX (xs ++ (ETX ∷ ys)) ≡ Some xs
 up_to_plain [] ys p = refl
 up_to_plain (x ∷ xs) ys p = rw (ne_eqb x ETX p.0.no_etx, up_to_plain xs ys p.1)
 
@@ -73,12 +73,12 @@ up_to_plain (x ∷ xs) ys p = rw (ne_eqb x ETX p.0.no_etx, up_to_plain xs ys p.1
 abbrev seven_bits : List ℕ → List ℕ
 seven_bits cs = map (λ c. c % 128) cs
 
-seven_bits_plain : (xs : List ℕ) → All Plain xs → seven_bits xs ≡ xs
+seven_bits_plain : (xs : List ℕ) → AllByRecursion Plain xs → seven_bits xs ≡ xs
 seven_bits_plain [] p = refl
 seven_bits_plain (x ∷ xs) p = let e = mod-eq_of_lt p.0.seven in let r = seven_bits_plain xs p.1 in cc
 
 -- what a reply carries beside an acknowledgement, to its end
-load_says : (l : Load) (d : Console) {last : Option (List ℕ)} → Holds d.held last d.locked → Backs l d.held → All Plain (call_code d.call)
+load_says : (l : Load) (d : Console) {last : Option (List ℕ)} → Holds d.held last d.locked → Backs l d.held → AllByRecursion Plain (call_code d.call)
     → (check : ℕ) → Says (seven_bits (load_codes l d) ++ (ETX ∷ check ∷ [])) false last
 load_says Nothing d h b c check = end_says check
 load_says Call d h b c check = rw (seven_bits_plain (call_code d.call) c) (after_plain (call_code d.call) c (end_says check))
@@ -106,7 +106,7 @@ finds_held None (Some c) = tt
 finds_held None None = tt
 
 module _ (k : Kind) (back : GivesBack k) (id : Identity) where
-  lead_plain : (n : ℕ) → All Plain (map k.character (replicate n (k.octet SYN)))
+  lead_plain : (n : ℕ) → AllByRecursion Plain (map k.character (replicate n (k.octet SYN)))
   lead_plain zero = tt
   lead_plain (suc n) = (rw (back SYN (omega arith)).1 (omega arith), lead_plain n)
 
@@ -128,7 +128,7 @@ module _ (k : Kind) (back : GivesBack k) (id : Identity) where
       (rw (append_assoc cs, map-append (λ c. c % 128) cs) (after_plain (SOH ∷ id.rid % 128 ∷ id.sid % 128 ∷ DID ∷ []) (omega arith) (s _)))
 
   pub shows_outstanding : (q : Outstanding) (d : Console) (last : Option (List ℕ))
-      → Holds d.held last d.locked → Backs q.load d.held → All Plain (call_code d.call)
+      → Holds d.held last d.locked → Backs q.load d.held → AllByRecursion Plain (call_code d.call)
       → Shows k (framed k id (content q d)) q.acknowledges last
   shows_outstanding q d last h b c =
       framed_shows (content q d)
@@ -143,7 +143,7 @@ module _ (k : Kind) (back : GivesBack k) (id : Identity) where
 
   -- where the settling leaves e with nothing outstanding, what there is to send goes out, or no traffic
   spoken_shows : (a : Bool) (d e : Console) (last : Option (List ℕ)) → e.due ≡ d.due
-      → Holds e.held last e.locked → Backed e.outstanding e.held → All Plain (call_code e.call)
+      → Holds e.held last e.locked → Backed e.outstanding e.held → AllByRecursion Plain (call_code e.call)
       → held_count d.held ≡ cond (acknowledges_text a d.outstanding) 1 0 + held_count e.held
       → Polled k a d (spoken k id None e) last
   spoken_shows a d e last same h b c n =
@@ -155,7 +155,7 @@ module _ (k : Kind) (back : GivesBack k) (id : Identity) where
       (λ _. record { text = sent.text; paid = grind arith; due = λ _. cc; holds = h; backed = finds; calls = c; counts = n })
 
   pub poll_shows : (a : Bool) (d : Console) (last : Option (List ℕ))
-      → Holds d.held last d.locked → Backed d.outstanding d.held → All Plain (call_code d.call)
+      → Holds d.held last d.locked → Backed d.outstanding d.held → AllByRecursion Plain (call_code d.call)
       → Polled k a d (polled k id a d) last
   poll_shows a d last h b c = answered a d.outstanding b
     where

@@ -1,6 +1,6 @@
 -- The law that every history of a terminal keeps.
 use Rattle.std.specs.Prelude.{◌≡◌, ℕ, ◌+◌, ◌<◌, ◌≤◌, true, false, List, ◌∷◌, ◌++◌, length, Some}
-use Rattle.std.specs.List.{AllByRecursion as All}
+use Rattle.std.specs.List.{AllByRecursion}
 use Rattle.line.specs.Kind.{Kind}
 use Rattle.edit.specs.View.{size}
 use Rattle.station.specs.declared.fault.Refusal.{Refusal}
@@ -24,8 +24,8 @@ AcknowledgesWhenDue k x past =
 abbrev pub IgnoresDamage : Kind → List Transition → State → Type 0
 IgnoresDamage k h t =
     (newer message past : List Transition) → h ≡ newer ++ (message ++ past)
-    → Damaged k (octets_in message) → All (λ x. Taken x.event) message → is_awaiting (began message t).receiver ≡ false
-    → All (λ x. WithoutEffect x.event x.before x.outcome.reply x.outcome.after) message
+    → Damaged k (octets_in message) → AllByRecursion (λ x. Taken x.event) message → is_awaiting (began message t).receiver ≡ false
+    → AllByRecursion (λ x. WithoutEffect x.event x.before x.outcome.reply x.outcome.after) message
 
 pub record Lawful (k : Kind) (h : List Transition) (t : State) : Type 0 where
   -- captions: protected is what the last host text left so, and the cursor is on the screen

@@ -1,6 +1,6 @@
 -- What can be read off a history, newest transition first.
 use Rattle.std.specs.Prelude.{◌≡◌, ℕ, ◌+◌, ◌^◌, ◌<◌, ◌≤◌, Bool, true, false, cond, not, ◌&&◌, ◌||◌, List, [], ◌∷◌, ◌++◌, map, Some, None, Ok, Err, filter, Option, Result, ◌==◌, bit_xor, nat_eq, slice_index, slice_index_or}
-use Rattle.std.specs.List.{AllByRecursion as All}
+use Rattle.std.specs.List.{AllByRecursion}
 use Rattle.codes.specs.Ascii.{SOH, STX, ETX, DLE}
 use Rattle.codes.specs.Classes.{is_fill}
 use Rattle.line.specs.Kind.{Kind}
@@ -163,7 +163,7 @@ on_the_way k cs =
 -- octets that are a message but for one bit
 pub record Damaged (k : Kind) (received : List ℕ) : Type 0 where
   pub body : List ℕ
-  pub inner : All Inner body
+  pub inner : AllByRecursion Inner body
   pub front : List ℕ
   pub hit : ℕ
   pub back : List ℕ

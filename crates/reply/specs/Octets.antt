@@ -17,8 +17,8 @@ abbrev pub checked : List ℕ → List ℕ
 checked cs = cs ++ (block_check cs ∷ [])
 
 -- what a reply begins with after the lead: SOH, or nothing where there is no traffic
-abbrev pub SOHFirst : List ℕ
-SOHFirst = SOH ∷ []
+abbrev pub soh_first : List ℕ
+soh_first = SOH ∷ []
 
 -- a reply under way: the lead, what it begins with, and its characters so far
 abbrev pub so_far : Kind → List ℕ → List ℕ → List ℕ
@@ -30,7 +30,7 @@ whole k first cs = so_far k first (checked cs)
 
 -- the reply whose characters after SOH are cs
 abbrev pub reply_octets : Kind → List ℕ → List ℕ
-reply_octets k cs = whole k SOHFirst cs
+reply_octets k cs = whole k soh_first cs
 
 -- the reply of a station that has nothing to send
 abbrev pub no_traffic : List ℕ

@@ -7,7 +7,7 @@ use Rattle.area.specs.Over.{over}
 use Rattle.reply.specs.declared.begun.Begun.{Begun}
 use Rattle.reply.specs.declared.begun.Closed.{Closed}
 use Rattle.reply.specs.declared.begun.Refused.{Refused}
-use Rattle.reply.specs.Octets.{SOHFirst, so_far, whole}
+use Rattle.reply.specs.Octets.{soh_first, so_far, whole}
 
 -- the reply b has sent cs after what it began with, over an area that was `before`, and the area shows it
 pub record Holds (k : Kind) (before first cs : List ℕ) (b : Begun) (area : List ℕ) : Type 0 where
@@ -22,7 +22,7 @@ pub record Shows (k : Kind) (before first cs : List ℕ) (c : Closed) (area : Li
 
 -- a reply just begun has no character yet
 abbrev pub Begins : Kind → List ℕ → Result Begun Refusal → List ℕ → Type 0
-Begins k before r area = IfOk r (λ b. Holds k before SOHFirst [] b area)
+Begins k before r area = IfOk r (λ b. Holds k before soh_first [] b area)
 
 -- whatever a reply held, it then holds these characters too
 abbrev pub Extends : Kind → Begun → List ℕ → List ℕ → Result Begun Refused → List ℕ → Type 0

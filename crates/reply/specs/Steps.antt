@@ -8,7 +8,7 @@ use Rattle.area.specs.Over.{fits, over, written_at}
 use Rattle.reply.specs.declared.begun.Begun.{Begun}
 use Rattle.reply.specs.declared.begun.Closed.{Closed}
 use Rattle.reply.specs.declared.begun.Refused.{Refused}
-use Rattle.reply.specs.Octets.{octets, SOHFirst, so_far, no_traffic_octets}
+use Rattle.reply.specs.Octets.{octets, soh_first, so_far, no_traffic_octets}
 
 -- a begun reply by its next place and its sum, a closed one by its length, and one refused for want of room
 abbrev pub begun : ℕ → ℕ → Begun
@@ -31,7 +31,7 @@ left room before after done full = cond room (record { area = after; answer = Ok
 
 -- a reply begins with the lead and SOH
 abbrev pub begins : Kind → List ℕ → Left Begun Refusal
-begins k area = left (fits area 0 (k.lead + 1)) area (over (so_far k SOHFirst []) area) (begun (k.lead + 1) 0) ShortArea
+begins k area = left (fits area 0 (k.lead + 1)) area (over (so_far k soh_first []) area) (begun (k.lead + 1) 0) ShortArea
 
 -- the reply with characters more
 abbrev pub longer : Begun → List ℕ → Begun

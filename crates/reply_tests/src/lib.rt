@@ -2,7 +2,7 @@
 #![tactic(auto)]
 
 ghost use Rattle.std.specs.Prelude.{◌≡◌, IfOk};
-ghost use Rattle.reply.specs.Octets.{SOHFirst};
+ghost use Rattle.reply.specs.Octets.{soh_first};
 ghost use Rattle.reply.specs.Steps.{closed};
 ghost use Rattle.reply.specs.Progress.{Shows};
 ghost use Rattle.reply_tests.specs.declared.Fault.TheVariants.{ShortArea};
@@ -46,7 +46,7 @@ pub fn compose<L: Line>(
     acknowledgement: &[u8],
     text: &[u8],
 ) -> Result<usize, Fault>
-    ensures { IfOk result (λ n. Shows L.Line.kind area.old SOHFirst (characters acknowledgement.now text.now) (closed n) area.new) }
+    ensures { IfOk result (λ n. Shows L.Line.kind area.old soh_first (characters acknowledgement.now text.now) (closed n) area.new) }
 {
     let reply = Begun::new(line, area)?;
     let addressed = reply.put_all(line, area, &[0x31, 0x61, 0x70])?;

@@ -1,8 +1,8 @@
 -- What the code's message actions stand for.
 use Rattle.std.specs.Prelude.{Ok, Err, Result}
 use Rattle.station.specs.declared.fault.MessageFault.{MessageFault}
-use Rattle.station.specs.declared.message.MessageAction as code
-use Rattle.station.specs.declared.message.MessageAction.TheVariants.{Poll, Repeat, CarryOut}
+use Rattle.station.specs.declared.action.MessageAction as code
+use Rattle.station.specs.declared.action.MessageAction.TheVariants.{Poll, Repeat, CarryOut}
 use Rattle.station.specs.Messages.{MessageAction, answer_poll, repeat, carry_out}
 
 abbrev pub the_action : code.MessageAction → MessageAction

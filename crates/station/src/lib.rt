@@ -1,12 +1,12 @@
 // A terminal's rules beside its line: keys, polls and replies, and what a call answers.
 #![tactic(auto)]
 
+pub mod action;
 pub mod answer;
 pub mod console;
 pub mod fault;
 pub mod identity;
 pub mod key;
-pub mod message;
 pub mod outstanding;
 pub mod poll;
 pub mod press;

@@ -13,11 +13,11 @@ use area::Refusal;
 use host::carry::carry_out;
 use line::Line;
 use screen::interface::Screen;
+use station::action::MessageAction;
 use station::answer::Answer;
 use station::console::Console;
 use station::fault::{Cause, Fault, OctetRefusal};
 use station::identity::Identity;
-use station::message::MessageAction;
 
 // What there is to send, or no traffic: the answer to a poll with nothing outstanding.
 fn send_fresh<L: Line>(

@@ -2,7 +2,7 @@
 ghost use Rattle.std.specs.Prelude.{◌≡◌, length};
 ghost use Rattle.area.specs.Over.{over};
 ghost use Rattle.station.specs.Terminal.{keyed, received};
-ghost use Rattle.history.specs.Trace.{key as by_key, octet as by-octet};
+ghost use Rattle.history.specs.Trace.{key as by_key, octet as by_octet};
 ghost use Rattle.history.specs.Law.{KeepsLaw};
 ghost use Rattle.terminal.specs.Meaning.{state_of};
 ghost use Rattle.terminal.specs.Seen.{seen_key, seen_octet};
@@ -34,7 +34,7 @@ impl<'s, L: Line, S: Screen> Terminal<'s, L, S> {
         ensures answer { result ≡ (received L.Line.kind self.old.identity octet (length area.old) (state_of L.Line.wants S.Screen.grid self.old)).answer }
         ensures area { area.new ≡ over (received L.Line.kind self.old.identity octet (length area.old) (state_of L.Line.wants S.Screen.grid self.old)).reply area.old }
         ensures after { state_of L.Line.wants S.Screen.grid self.new ≡ (received L.Line.kind self.old.identity octet (length area.old) (state_of L.Line.wants S.Screen.grid self.old)).after }
-        ensures law { KeepsLaw L.Line.kind self.old.identity (by-octet octet (length area.old)) (state_of L.Line.wants S.Screen.grid self.old) (seen_octet result area.new (state_of L.Line.wants S.Screen.grid self.new)) }
+        ensures law { KeepsLaw L.Line.kind self.old.identity (by_octet octet (length area.old)) (state_of L.Line.wants S.Screen.grid self.old) (seen_octet result area.new (state_of L.Line.wants S.Screen.grid self.new)) }
     {
         self.lawful_octet(octet, area)
     }
@@ -59,7 +59,7 @@ impl<'s, L: Line, S: Screen> Terminal<'s, L, S> {
         ensures answer { result ≡ (received L.Line.kind self.old.identity octet (length area.old) (state_of L.Line.wants S.Screen.grid self.old)).answer }
         ensures area { area.new ≡ over (received L.Line.kind self.old.identity octet (length area.old) (state_of L.Line.wants S.Screen.grid self.old)).reply area.old }
         ensures after { state_of L.Line.wants S.Screen.grid self.new ≡ (received L.Line.kind self.old.identity octet (length area.old) (state_of L.Line.wants S.Screen.grid self.old)).after }
-        ensures law { KeepsLaw L.Line.kind self.old.identity (by-octet octet (length area.old)) (state_of L.Line.wants S.Screen.grid self.old) (seen_octet result area.new (state_of L.Line.wants S.Screen.grid self.new)) }
+        ensures law { KeepsLaw L.Line.kind self.old.identity (by_octet octet (length area.old)) (state_of L.Line.wants S.Screen.grid self.old) (seen_octet result area.new (state_of L.Line.wants S.Screen.grid self.new)) }
     {
         self.step_octet(octet, area)
     }

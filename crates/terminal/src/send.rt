@@ -11,9 +11,9 @@ use line::Line;
 use message::ACKNOWLEDGE;
 use reply::begun::{Begun, Closed};
 use reply::no_traffic::no_traffic;
+use station::action::DID;
 use station::console::Console;
 use station::identity::Identity;
-use station::message::DID;
 use station::outstanding::{Load, Outstanding};
 
 // A reply with SOH: the station's addresses, an acknowledgement or nothing, what begins the load, and the rest of it.

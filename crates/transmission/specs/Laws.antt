@@ -1,6 +1,6 @@
 -- What a transmission's text can hold.
 use Rattle.std.specs.Prelude.{◌≡◌, ℕ, ◌<◌}
-use Rattle.std.specs.List.{AllByRecursion as All}
+use Rattle.std.specs.List.{AllByRecursion}
 use Rattle.codes.specs.Ascii.{STX, ETX, DLE}
 use Rattle.edit.specs.View.{View}
 use Rattle.edit.specs.Laws.{OnScreen}
@@ -16,4 +16,4 @@ pub record Plain (c : ℕ) : Type 0 where
 
 -- so a message that carries the text can be taken apart again
 abbrev pub TextsArePlain : Type 0
-TextsArePlain = (k : Kind) (v : View) → OnScreen v → All Plain (taken k v)
+TextsArePlain = (k : Kind) (v : View) → OnScreen v → AllByRecursion Plain (taken k v)

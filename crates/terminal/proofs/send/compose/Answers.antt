@@ -1,7 +1,7 @@
 use Rattle.std.proofs.Common.{◌≡◌, ℕ, List, [], ◌∷◌, ◌++◌, Ok, ap, subst}
 use Rattle.std.proofs.lemmas.List.{append_assoc}
 use Rattle.codes.specs.Ascii.{ETX}
-use Rattle.reply.specs.Octets.{SOHFirst}
+use Rattle.reply.specs.Octets.{soh_first}
 use Rattle.reply.specs.Progress.{Shows}
 use Rattle.station.specs.Console.{DID}
 use Rattle.terminal.proofs.send.compose.Goals as goal
@@ -14,13 +14,13 @@ returns g c =
     let text = c.args.text.now in
     let from : List ℕ → List ℕ = λ t. c.args.identity.rid ∷ (c.args.identity.sid ∷ (DID ∷ t)) in
     let begun = c.in_ok-reply.ensures.begins in
-    let addressed = c.in_ok-addressed.ensures.extends before SOHFirst [] begun in
-    let acknowledged = c.in_ok-acknowledged.ensures.extends before SOHFirst (from []) addressed in
-    let started = c.in_ok-started.ensures.extends before SOHFirst (from ack) acknowledged in
-    let told = c.in_ok-told.ensures.extends before SOHFirst (from (ack ++ first)) started in
-    let ended = c.in_ok-ended.ensures.extends before SOHFirst (from ((ack ++ first) ++ text)) told in
-    let shown = c.in_ok-closed.ensures.ends before SOHFirst (from (((ack ++ first) ++ text) ++ (ETX ∷ []))) ended in
+    let addressed = c.in_ok-addressed.ensures.extends before soh_first [] begun in
+    let acknowledged = c.in_ok-acknowledged.ensures.extends before soh_first (from []) addressed in
+    let started = c.in_ok-started.ensures.extends before soh_first (from ack) acknowledged in
+    let told = c.in_ok-told.ensures.extends before soh_first (from (ack ++ first)) started in
+    let ended = c.in_ok-ended.ensures.extends before soh_first (from ((ack ++ first) ++ text)) told in
+    let shown = c.in_ok-closed.ensures.ends before soh_first (from (((ack ++ first) ++ text) ++ (ETX ∷ []))) ended in
     let joined : ((ack ++ first) ++ text) ++ (ETX ∷ []) ≡ (ack ++ (first ++ text)) ++ (ETX ∷ []) = simp append_assoc in
-    let whole : Shows g.L.Line.kind before SOHFirst (from ((ack ++ (first ++ text)) ++ (ETX ∷ []))) c.in_ok-closed.closed c.close.new.area =
-    subst (λ t. Shows g.L.Line.kind before SOHFirst (from t) c.in_ok-closed.closed c.close.new.area) joined shown in
+    let whole : Shows g.L.Line.kind before soh_first (from ((ack ++ (first ++ text)) ++ (ETX ∷ []))) c.in_ok-closed.closed c.close.new.area =
+    subst (λ t. Shows g.L.Line.kind before soh_first (from t) c.in_ok-closed.closed c.close.new.area) joined shown in
     record { area = whole.octets; length = ap Ok whole.count }
