@@ -45,7 +45,7 @@ abbrev pub is_held : {A : Type 0} → Option A → Bool
 is_held None = false
 is_held (Some x) = true
 
-abbrev pub said : {R : Type 0} → (taken-up acknowledged carried-out : Bool) → Option ℕ → Result Answer R
+abbrev pub said : {R : Type 0} → (taken_up acknowledged carried_out : Bool) → Option ℕ → Result Answer R
 said t a c n = Ok (record { taken_up = t; acknowledged = a; carried_out = c; reply = n })
 
 abbrev pub with_view : View → State → State

@@ -1,23 +1,24 @@
 -- What the code's forms and messages stand for.
 use Rattle.std.specs.Prelude.{Some, None, Option}
-use Rattle.message.specs.declared.Form as code-form
+use Rattle.message.specs.declared.Form as code_form
 use Rattle.message.specs.declared.Form.TheVariants.{Poll, PollAcknowledge, Repeat, Text}
-use Rattle.message.specs.declared.Message as code-message
+use Rattle.message.specs.declared.Message as code_message
 use Rattle.message.specs.Forms.{Form, poll, poll_acknowledge, repeat_request, text, Message}
 
-abbrev pub the_form : code-form.Form → Form
+abbrev pub the_form : code_form.Form → Form
 the_form Poll = poll
 the_form PollAcknowledge = poll_acknowledge
 the_form Repeat = repeat_request
 the_form (Text t) = text t.now
 
-abbrev pub form_of : Option code-form.Form → Option Form
+abbrev pub form_of : Option code_form.Form → Option Form
 form_of None = None
 form_of (Some f) = Some (the_form f)
 
-abbrev pub message_of : Option code-message.Message → Option Message
+abbrev pub message_of : Option code_message.Message → Option Message
 message_of None = None
 message_of (Some m) = Some (record { rid = m.rid; sid = m.sid; did = m.did; form = the_form m.form })
 
-abbrev pub the_message : code-message.Message → Message
+-- what a message in the code stands for
+abbrev pub the_message : code_message.Message → Message
 the_message m = record { rid = m.rid; sid = m.sid; did = m.did; form = the_form m.form }

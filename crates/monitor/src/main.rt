@@ -41,7 +41,7 @@ fn asked(rt: &HostRuntime) -> Option<Wanted> {
     Some(wanted)
 }
 
-// Prints what the arguments ask for; an Err where something went wrong, which standard error then tells.
+// Prints what the arguments ask for; an Err where it could not.
 fn answer(rt: &HostRuntime) -> Result<(), ()> {
     let report = match asked(rt) {
         Some(Wanted::Report(report)) => report,

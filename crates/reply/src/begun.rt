@@ -32,6 +32,7 @@ pub struct Refused {
     pub refusal: Refusal,
 }
 
+// A refused reply is let go where the caller wants only the refusal.
 impl From<Refused> for Refusal {
     ghost from_gives = { λ e r. r ≡ e.refusal };
 

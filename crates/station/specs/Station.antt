@@ -36,7 +36,7 @@ pub record Outcome (R S : Type 0) : Type 0 where
   pub reply : List ℕ
   pub after : S
 
-abbrev pub said : {R : Type 0} → (taken-up acknowledged carried-out : Bool) → Option ℕ → Result Answer R
+abbrev pub said : {R : Type 0} → (taken_up acknowledged carried_out : Bool) → Option ℕ → Result Answer R
 said t a c n = Ok (record { taken_up = t; acknowledged = a; carried_out = c; reply = n })
 
 -- nothing is written
