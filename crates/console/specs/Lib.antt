@@ -1,4 +1,5 @@
 pub mod Console
 pub mod Keys
 pub mod Messages
+pub mod Numbers
 pub mod Terminal

@@ -1,6 +1,7 @@
 // The refusals of keys and octets, by their numbers.
 ghost use Rattle.std.specs.Prelude.{◌≡◌};
 ghost use Rattle.console.specs.declared.fault.Cause.TheVariants.{Below};
+ghost use Rattle.console.specs.Numbers.{key_number, message_number, cause_number};
 
 use receiver::fault::{Cause as ReceiverCause, Fault as ReceiverFault};
 
@@ -14,6 +15,14 @@ pub enum KeyRefusal {
     CallHeld = 5,
 }
 
+impl KeyRefusal {
+    pub fn number(self) -> u8
+        ensures { result ≡ key_number self }
+    {
+        self as u8
+    }
+}
+
 // Why the terminal refuses a whole message.
 #[derive(Clone, Copy, PartialEq, Eq, Debug)]
 pub enum MessageFault {
@@ -22,11 +31,30 @@ pub enum MessageFault {
     NothingToRepeat = 12,
 }
 
+impl MessageFault {
+    pub fn number(self) -> u8
+        ensures { result ≡ message_number self }
+    {
+        self as u8
+    }
+}
+
 // The layer that refused an octet that was taken, and why.
 #[derive(Clone, Copy, PartialEq, Eq, Debug)]
 pub enum Cause {
     Below(ReceiverCause),
     Terminal(MessageFault),
+}
+
+impl Cause {
+    pub fn number(self) -> u8
+        ensures { result ≡ cause_number self }
+    {
+        match self {
+            Cause::Below(cause) => cause.number(),
+            Cause::Terminal(fault) => fault.number(),
+        }
+    }
 }
 
 // A refusal of an octet that was taken, with the count of the characters kept till then.

@@ -1,6 +1,7 @@
 // What a key is to do, and when it is refused.
 ghost use Rattle.std.specs.Prelude.{◌≡◌};
 ghost use Rattle.console.specs.Keys.{key_action, guarded, decide_key};
+ghost use Rattle.console.specs.Terminal.{takes_up};
 
 use crate::fault::KeyRefusal;
 use codes::{BEL, HT, RS};
@@ -63,6 +64,17 @@ impl KeyAction {
             0x00..=0x1f | 0x7f | 0x98..=0xff => return None,
         };
         Some(action)
+    }
+
+    // Whether the action takes up a transmission.
+    pub fn takes_up(self) -> bool
+        ensures { result ≡ takes_up self }
+    {
+        match self {
+            KeyAction::Transmit(_) => true,
+            KeyAction::Store(_) | KeyAction::Edit(_) | KeyAction::Call(_) | KeyAction::Unlock =>
+                false,
+        }
     }
 
     // The action, unless a guard refuses it.

@@ -1,4 +1,6 @@
 // A reply that is still to be acknowledged.
+ghost use Rattle.std.specs.Prelude.{◌≡◌};
+ghost use Rattle.console.specs.Console.{is_empty};
 
 // What a reply carries beside an acknowledgement.
 #[derive(Clone, Copy)]
@@ -13,4 +15,16 @@ pub enum Load {
 pub struct Outstanding {
     pub acknowledges: bool,
     pub load: Load,
+}
+
+impl Outstanding {
+    // Whether a reply would say nothing.
+    pub fn is_empty(self) -> bool
+        ensures { result ≡ is_empty self }
+    {
+        match self.load {
+            Load::Nothing => !self.acknowledges,
+            Load::Text | Load::Call => false,
+        }
+    }
 }

@@ -10,10 +10,11 @@ use Rattle.edit.specs.Laws.{is_key}
 use Rattle.transmission.specs.Laws.{Plain}
 use Rattle.host.specs.Carrying.{is_some}
 use Rattle.station.specs.declared.identity.Identity.{Identity}
-use Rattle.station.specs.declared.key.KeyAction.{KeyAction}
-use Rattle.station.specs.declared.key.KeyAction.TheVariants.{Store, Edit, Transmit, Call, Unlock}
-use Rattle.station.specs.Keys.{keys}
-use Rattle.station.specs.Messages.{MessageAction, answer_poll, repeat, carry_out, decide_message}
+use Rattle.console.specs.declared.key.KeyAction.{KeyAction}
+use Rattle.console.specs.declared.key.KeyAction.TheVariants.{Store, Edit, Transmit, Call, Unlock}
+use Rattle.console.specs.Keys.{keys}
+use Rattle.console.specs.Messages.{MessageAction, answer_poll, repeat, carry_out}
+use Rattle.station.specs.Addressed.{decide_message}
 use Rattle.station.specs.Station.{Station, action_now}
 use Rattle.station.specs.Terminal.{State}
 use Rattle.history.specs.Words.{kept_in, form_at, sent_by_key}

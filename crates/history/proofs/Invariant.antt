@@ -7,7 +7,7 @@ use Rattle.edit.specs.View.{View}
 use Rattle.edit.specs.Laws.{OnScreen}
 use Rattle.edit.proofs.Sizes.{size_least}
 use Rattle.transmission.specs.Laws.{Plain}
-use Rattle.station.specs.Console.{Console, call_code}
+use Rattle.console.specs.Console.{Console, call_code}
 use Rattle.station.specs.Station.{Station}
 use Rattle.station.specs.Terminal.{State}
 use Rattle.history.specs.Trace.{Transition, New}

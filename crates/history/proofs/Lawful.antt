@@ -22,16 +22,17 @@ use Rattle.transmission.proofs.Plainness.{taken_plain}
 use Rattle.host.specs.Carrying.{taking}
 use Rattle.host.specs.Laws.{steps_before}
 use Rattle.host.proofs.Steps.{drawn_all_on, taken_before}
-use Rattle.station.specs.declared.answer.Answer.{Answer}
-use Rattle.station.specs.declared.fault.KeyRefusal.{KeyRefusal}
-use Rattle.station.specs.declared.fault.MessageFault.{MessageFault}
+use Rattle.console.specs.declared.answer.Answer.{Answer}
+use Rattle.console.specs.declared.fault.KeyRefusal.{KeyRefusal}
+use Rattle.console.specs.declared.fault.MessageFault.{MessageFault}
 use Rattle.station.specs.declared.fault.Refusal.{Refusal}
 use Rattle.station.specs.declared.fault.Refusal.TheVariants.{Key, Octet}
 use Rattle.station.specs.declared.identity.Identity.{Identity}
-use Rattle.station.specs.declared.key.KeyAction.{KeyAction}
-use Rattle.station.specs.declared.key.KeyAction.TheVariants.{Store, Edit, Transmit, Call, Unlock}
-use Rattle.station.specs.declared.outstanding.Outstanding.{Outstanding}
-use Rattle.station.specs.Messages.{MessageAction, answer_poll, repeat, carry_out, decide_message}
+use Rattle.console.specs.declared.key.KeyAction.{KeyAction}
+use Rattle.console.specs.declared.key.KeyAction.TheVariants.{Store, Edit, Transmit, Call, Unlock}
+use Rattle.console.specs.declared.outstanding.Outstanding.{Outstanding}
+use Rattle.console.specs.Messages.{MessageAction, answer_poll, repeat, carry_out}
+use Rattle.station.specs.Addressed.{decide_message}
 use Rattle.station.specs.Station.{Station, Outcome, said, silent, key_outcome, action_now, message_outcome}
 use Rattle.station.specs.Terminal.{State, with_station, heard_by, told, heard_outcome}
 use Rattle.history.specs.Trace.{Event, key, octet, Transition, widened, outcome_of, Leads, New}

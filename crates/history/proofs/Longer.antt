@@ -2,7 +2,7 @@
 use Rattle.std.proofs.Common.{◌≡◌, ℕ, List, [], ◌∷◌, ◌++◌, Result, sym, refl, ap, ◌∙◌, subst}
 use Rattle.area.specs.Over.{over}
 use Rattle.line.specs.Kind.{Kind, GivesBack, DetectsOneBit, InRange}
-use Rattle.station.specs.declared.answer.Answer.{Answer}
+use Rattle.console.specs.declared.answer.Answer.{Answer}
 use Rattle.station.specs.declared.fault.Refusal.{Refusal}
 use Rattle.station.specs.declared.identity.Identity.{Identity}
 use Rattle.station.specs.Terminal.{State}

@@ -10,10 +10,11 @@ use Rattle.transmission.specs.Laws.{Plain}
 use Rattle.host.specs.Carrying.{is_some}
 use Rattle.reply.specs.Octets.{lead, octets, checked, no_traffic, no_traffic_octets}
 use Rattle.station.specs.declared.identity.Identity.{Identity}
-use Rattle.station.specs.declared.outstanding.Load.{Load}
-use Rattle.station.specs.declared.outstanding.Load.TheVariants.{Nothing, Text, Call}
-use Rattle.station.specs.declared.outstanding.Outstanding.{Outstanding}
-use Rattle.station.specs.Console.{Console, DID, ONE, text_codes, call_code, load_codes, content, framed, load_of, found, is_empty, freed, acknowledges_text, Spoken, spoken, polled}
+use Rattle.console.specs.declared.outstanding.Load.{Load}
+use Rattle.console.specs.declared.outstanding.Load.TheVariants.{Nothing, Text, Call}
+use Rattle.console.specs.declared.outstanding.Outstanding.{Outstanding}
+use Rattle.console.specs.Console.{Console, DID, ONE, text_codes, call_code, load_codes, content, load_of, found, is_empty, freed, acknowledges_text, Spoken}
+use Rattle.station.specs.Addressed.{framed, spoken, polled}
 use Rattle.history.specs.Words.{held_count, up_to_ETX, text_sent, has_acknowledgement, finds_nothing}
 
 -- a held text is the last one taken, keeps the keyboard locked, and is plain

@@ -2,7 +2,7 @@
 use Rattle.std.specs.Prelude.{◌≡◌, ℕ, List, [], ◌∷◌, ◌++◌, Result}
 use Rattle.area.specs.Over.{over}
 use Rattle.line.specs.Kind.{Kind}
-use Rattle.station.specs.declared.answer.Answer.{Answer}
+use Rattle.console.specs.declared.answer.Answer.{Answer}
 use Rattle.station.specs.declared.fault.Refusal.{Refusal}
 use Rattle.station.specs.declared.identity.Identity.{Identity}
 use Rattle.station.specs.Terminal.{State}

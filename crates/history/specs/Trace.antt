@@ -5,11 +5,11 @@ use Rattle.receiver.specs.Receiving.{idle}
 use Rattle.screen.specs.Cells.{blank}
 use Rattle.screen.specs.Grid.{Sound}
 use Rattle.edit.specs.View.{size}
-use Rattle.station.specs.declared.answer.Answer.{Answer}
+use Rattle.console.specs.declared.answer.Answer.{Answer}
 use Rattle.station.specs.declared.fault.Refusal.{Refusal}
 use Rattle.station.specs.declared.fault.Refusal.TheVariants.{Key, Octet}
 use Rattle.station.specs.declared.identity.Identity.{Identity}
-use Rattle.station.specs.Console.{new_console}
+use Rattle.console.specs.Console.{new_console}
 use Rattle.station.specs.Station.{Outcome}
 use Rattle.station.specs.Terminal.{State, keyed, received}
 

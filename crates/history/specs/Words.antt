@@ -19,10 +19,10 @@ use Rattle.host.specs.Drawing.{drawn_all}
 use Rattle.host.specs.Carrying.{took}
 use Rattle.host.specs.Laws.{steps_before, first_transmission}
 use Rattle.reply.specs.Octets.{octets}
-use Rattle.station.specs.declared.answer.Answer.{Answer}
+use Rattle.console.specs.declared.answer.Answer.{Answer}
 use Rattle.station.specs.declared.fault.Refusal.{Refusal}
-use Rattle.station.specs.declared.outstanding.Outstanding.{Outstanding}
-use Rattle.station.specs.Console.{ONE}
+use Rattle.console.specs.declared.outstanding.Outstanding.{Outstanding}
+use Rattle.console.specs.Console.{ONE}
 use Rattle.station.specs.Terminal.{State}
 use Rattle.history.specs.Trace.{Event, key, octet, Transition}
 

@@ -15,7 +15,8 @@ use Rattle.host.specs.Drawing.{drawn_all}
 use Rattle.page.specs.declared.refusal.Refusal.TheVariants.{WrongNumber}
 use Rattle.page.specs.Numbers.{number, first_number}
 use Rattle.station.specs.declared.identity.Identity.{Identity}
-use Rattle.station.specs.Console.{Console, new_console, polled}
+use Rattle.console.specs.Console.{Console, new_console}
+use Rattle.station.specs.Addressed.{polled}
 use Rattle.station.specs.Terminal.{State, keyed}
 
 -- a new screen of 12 rows of 80

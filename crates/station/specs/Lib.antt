@@ -1,8 +1,6 @@
-pub mod Console
+pub mod Addressed
 pub mod Identity
-pub mod Keys
 pub mod Meaning
-pub mod Messages
 pub mod Numbers
 pub mod Shown
 pub mod Station

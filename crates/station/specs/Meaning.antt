@@ -2,8 +2,8 @@
 use Rattle.host.specs.Carrying.{held_of}
 use Rattle.screen.specs.Grid.{Grid}
 use Rattle.edit.specs.View.{at}
-use Rattle.station.specs.declared.console.Console as code
-use Rattle.station.specs.Console.{Console}
+use Rattle.station.specs.declared.state.Console as code
+use Rattle.console.specs.Console.{Console}
 use Rattle.station.specs.Station.{Station}
 
 abbrev pub console_of : code.Console → Console

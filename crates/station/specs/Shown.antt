@@ -1,9 +1,9 @@
 -- What the code's message actions stand for.
 use Rattle.std.specs.Prelude.{Ok, Err, Result}
-use Rattle.station.specs.declared.fault.MessageFault.{MessageFault}
+use Rattle.console.specs.declared.fault.MessageFault.{MessageFault}
 use Rattle.station.specs.declared.action.MessageAction as code
 use Rattle.station.specs.declared.action.MessageAction.TheVariants.{Poll, Repeat, CarryOut}
-use Rattle.station.specs.Messages.{MessageAction, answer_poll, repeat, carry_out}
+use Rattle.console.specs.Messages.{MessageAction, answer_poll, repeat, carry_out}
 
 abbrev pub the_action : code.MessageAction → MessageAction
 the_action (Poll a) = answer_poll a

@@ -10,15 +10,18 @@ use Rattle.edit.specs.Writing.{any_open, stored}
 use Rattle.transmission.specs.Text.{taken}
 use Rattle.host.specs.Drawing.{drawn_all}
 use Rattle.host.specs.Carrying.{is_lock, is_light, some_step, taking, or_else, is_some}
-use Rattle.station.specs.declared.answer.Answer.{Answer}
-use Rattle.station.specs.declared.fault.KeyRefusal.{KeyRefusal}
-use Rattle.station.specs.declared.fault.MessageFault.{MessageFault}
+use Rattle.console.specs.declared.answer.Answer.{Answer}
+use Rattle.console.specs.declared.fault.KeyRefusal.{KeyRefusal}
+use Rattle.console.specs.declared.fault.MessageFault.{MessageFault}
 use Rattle.station.specs.declared.identity.Identity.{Identity}
-use Rattle.station.specs.declared.key.KeyAction.{KeyAction}
-use Rattle.station.specs.declared.key.KeyAction.TheVariants.{Store, Edit, Transmit, Call, Unlock}
-use Rattle.station.specs.Console.{Console, content, framed, polled, acknowledges_text, holding, calling, unlocked}
-use Rattle.station.specs.Keys.{takes_up, decide_key}
-use Rattle.station.specs.Messages.{MessageAction, answer_poll, repeat, carry_out, decide_message}
+use Rattle.console.specs.declared.key.KeyAction.{KeyAction}
+use Rattle.console.specs.declared.key.KeyAction.TheVariants.{Store, Edit, Transmit, Call, Unlock}
+use Rattle.console.specs.Console.{Console, content, acknowledges_text, holding, calling, unlocked}
+use Rattle.station.specs.Addressed.{framed, polled}
+use Rattle.console.specs.Keys.{decide_key}
+use Rattle.console.specs.Terminal.{takes_up}
+use Rattle.console.specs.Messages.{MessageAction, answer_poll, repeat, carry_out}
+use Rattle.station.specs.Addressed.{decide_message}
 
 pub record Station : Type 0 where
   pub view : View

@@ -8,11 +8,11 @@ use Rattle.receiver.specs.declared.receive.Event.{Event}
 use Rattle.receiver.specs.declared.receive.Event.TheVariants as event
 use Rattle.receiver.specs.Receiving as receiving
 use Rattle.receiver.specs.Hearing.{hear}
-use Rattle.station.specs.declared.answer.Answer.{Answer}
-use Rattle.station.specs.declared.fault.KeyRefusal.{KeyRefusal}
-use Rattle.station.specs.declared.fault.MessageFault.{MessageFault}
-use Rattle.station.specs.declared.fault.Cause.TheVariants as cause
-use Rattle.station.specs.declared.fault.Fault.{Fault}
+use Rattle.console.specs.declared.answer.Answer.{Answer}
+use Rattle.console.specs.declared.fault.KeyRefusal.{KeyRefusal}
+use Rattle.console.specs.declared.fault.MessageFault.{MessageFault}
+use Rattle.console.specs.declared.fault.Cause.TheVariants as cause
+use Rattle.console.specs.declared.fault.Fault.{Fault}
 use Rattle.station.specs.declared.fault.OctetRefusal.{OctetRefusal}
 use Rattle.station.specs.declared.fault.OctetRefusal.TheVariants as refusal
 use Rattle.station.specs.declared.identity.Identity.{Identity}

@@ -1,12 +1,13 @@
 // What a whole message is to do, and when it is refused.
 ghost use Rattle.std.specs.Prelude.{◌≡◌};
 ghost use Rattle.message.specs.Shown.{the_form, the_message};
-ghost use Rattle.station.specs.Messages.{is_own, form_action, decide_message};
+ghost use Rattle.console.specs.Messages.{form_action};
+ghost use Rattle.station.specs.Addressed.{is_own, decide_message};
 ghost use Rattle.station.specs.Shown.{action_of};
 
-use crate::fault::MessageFault;
 use crate::identity::Identity;
-use crate::outstanding::Outstanding;
+use console::fault::MessageFault;
+use console::outstanding::Outstanding;
 use message::{Form, Message};
 
 // The device identifier of a terminal.

@@ -1,71 +1,11 @@
-// The refusals of keys and octets, by their numbers.
+// Why a key or an octet is refused, by numbers.
 ghost use Rattle.std.specs.Prelude.{◌≡◌};
-ghost use Rattle.station.specs.declared.fault.Cause.TheVariants.{Below};
 ghost use Rattle.station.specs.declared.fault.OctetRefusal.TheVariants as octet;
 ghost use Rattle.station.specs.declared.fault.Refusal.TheVariants as either;
-ghost use Rattle.station.specs.Numbers.{key_number, message_number, cause_number, octet_number};
+ghost use Rattle.station.specs.Numbers.{octet_number};
 
 use area::Refusal as AreaRefusal;
-use receiver::fault::{Cause as ReceiverCause, Fault as ReceiverFault};
-
-// Why a key is refused.
-#[derive(Clone, Copy)]
-pub enum KeyRefusal {
-    Locked = 1,
-    NoSuchKey = 2,
-    NoOpenCell = 3,
-    StillHeld = 4,
-    CallHeld = 5,
-}
-
-impl KeyRefusal {
-    pub fn number(self) -> u8
-        ensures { result ≡ key_number self }
-    {
-        self as u8
-    }
-}
-
-// Why the terminal refuses a whole message.
-#[derive(Clone, Copy)]
-pub enum MessageFault {
-    UnknownForm = 10,
-    OtherStation = 11,
-    NothingToRepeat = 12,
-}
-
-impl MessageFault {
-    pub fn number(self) -> u8
-        ensures { result ≡ message_number self }
-    {
-        self as u8
-    }
-}
-
-// The layer that refused an octet that was taken, and why.
-#[derive(Clone, Copy)]
-pub enum Cause {
-    Below(ReceiverCause),
-    Terminal(MessageFault),
-}
-
-impl Cause {
-    pub fn number(self) -> u8
-        ensures { result ≡ cause_number self }
-    {
-        match self {
-            Cause::Below(cause) => cause.number(),
-            Cause::Terminal(fault) => fault.number(),
-        }
-    }
-}
-
-// A refusal of an octet that was taken, with the count of the characters kept till then.
-#[derive(Clone, Copy)]
-pub struct Fault {
-    pub cause: Cause,
-    pub kept: usize,
-}
+use console::fault::{Fault, KeyRefusal};
 
 // Why an octet is refused.
 #[derive(Clone, Copy)]
@@ -83,17 +23,6 @@ impl OctetRefusal {
         match self {
             OctetRefusal::Area(refusal) => refusal.number(),
             OctetRefusal::Fault(fault) => fault.cause.number(),
-        }
-    }
-}
-
-impl From<ReceiverFault> for Fault {
-    ghost from_gives = { λ e r. r ≡ record { cause = Below e.cause; kept = e.kept } };
-
-    fn from(e: ReceiverFault) -> Fault {
-        Fault {
-            cause: Cause::Below(e.cause),
-            kept: e.kept,
         }
     }
 }

@@ -2,11 +2,8 @@
 #![tactic(auto)]
 
 pub mod action;
-pub mod answer;
-pub mod console;
 pub mod fault;
 pub mod identity;
-pub mod key;
-pub mod outstanding;
 pub mod poll;
 pub mod press;
+pub mod state;

@@ -1,22 +1,10 @@
 // What a poll finds and settles.
 ghost use Rattle.std.specs.Prelude.{◌≡◌};
-ghost use Rattle.station.specs.Console.{found, is_empty, settled, acknowledges_text, with_outstanding};
+ghost use Rattle.console.specs.Console.{found, is_empty, settled, acknowledges_text, with_outstanding};
 ghost use Rattle.station.specs.Meaning.{console_of};
 
-use crate::console::Console;
-use crate::outstanding::{Load, Outstanding};
-
-impl Outstanding {
-    // Whether a reply would say nothing.
-    pub fn is_empty(self) -> bool
-        ensures { result ≡ is_empty self }
-    {
-        match self.load {
-            Load::Nothing => !self.acknowledges,
-            Load::Text | Load::Call => false,
-        }
-    }
-}
+use crate::state::Console;
+use console::outstanding::{Load, Outstanding};
 
 impl Console {
     // What there is to send; the text comes before the call.

@@ -2,15 +2,15 @@
 ghost use Rattle.std.specs.Prelude.{◌≡◌, true};
 ghost use Rattle.host.specs.Carrying.{is_some, held_of};
 ghost use Rattle.edit.specs.Writing.{any_open};
-ghost use Rattle.station.specs.Console.{new_console};
+ghost use Rattle.console.specs.Console.{new_console};
 ghost use Rattle.station.specs.Meaning.{console_of, station_of};
 ghost use Rattle.station.specs.Station.{does_key, is_called, can_do, pressed};
 
-use crate::answer::Answer;
-use crate::console::Console;
-use crate::fault::KeyRefusal;
-use crate::key::{Guards, KeyAction};
+use crate::state::Console;
 use codes::BEL;
+use console::answer::Answer;
+use console::fault::KeyRefusal;
+use console::key::{Guards, KeyAction};
 use edit::apply::apply;
 use edit::edits::Edit;
 use edit::store::{any_open, store};

@@ -3,7 +3,7 @@ use Rattle.std.proofs.Common.{◌≡◌, ℕ, List, Ok, Err, Result, ap, arith}
 use Rattle.line.specs.Kind.{Kind}
 use Rattle.receiver.specs.declared.fault.Fault as below
 use Rattle.receiver.specs.declared.receive.Event.{Event}
-use Rattle.station.specs.declared.fault.Fault.{Fault}
+use Rattle.console.specs.declared.fault.Fault.{Fault}
 use Rattle.station.specs.declared.fault.OctetRefusal.TheVariants as refusal
 use Rattle.station.specs.declared.identity.Identity.{Identity}
 use Rattle.station.specs.Station.{silent}

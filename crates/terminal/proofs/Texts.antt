@@ -4,7 +4,7 @@ use Rattle.text.specs.Steps.{Step}
 use Rattle.edit.specs.View.{View}
 use Rattle.host.specs.Drawing.{drawn_all}
 use Rattle.host.specs.Carrying.{is_lock, is_light, some_step, taking, or_else, is_some}
-use Rattle.station.specs.Console.{Console}
+use Rattle.console.specs.Console.{Console}
 use Rattle.station.specs.Station.{Station, carried}
 
 pub carried_parts : (ss : List Step) (d : Console) (v w : View) (locked light : Bool) (held : Option (List ℕ))

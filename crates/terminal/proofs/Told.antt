@@ -8,14 +8,15 @@ use Rattle.receiver.specs.declared.fault.Fault as below
 use Rattle.receiver.specs.declared.receive.Event.{Event}
 use Rattle.receiver.specs.declared.receive.Event.TheVariants as event
 use Rattle.receiver.specs.Hearing.{hear}
-use Rattle.station.specs.declared.fault.KeyRefusal.{KeyRefusal}
-use Rattle.station.specs.declared.fault.MessageFault.{MessageFault}
+use Rattle.console.specs.declared.fault.KeyRefusal.{KeyRefusal}
+use Rattle.console.specs.declared.fault.MessageFault.{MessageFault}
 use Rattle.station.specs.declared.fault.OctetRefusal.{OctetRefusal}
 use Rattle.station.specs.declared.identity.Identity.{Identity}
-use Rattle.station.specs.Messages.{MessageAction, answer_poll, repeat, carry_out, decide_message}
+use Rattle.console.specs.Messages.{MessageAction, answer_poll, repeat, carry_out}
+use Rattle.station.specs.Addressed.{decide_message}
 use Rattle.station.specs.Station.{Station, Outcome, message_outcome}
 use Rattle.station.specs.Terminal.{State, keyed, told, heard_by, heard_outcome, taken, received}
-use Rattle.station.specs.declared.answer.Answer.{Answer}
+use Rattle.console.specs.declared.answer.Answer.{Answer}
 use Rattle.history.specs.Trace.{key, octet, outcome_of}
 use Rattle.terminal.specs.Seen.{reply_length, seen_key, seen_octet}
 

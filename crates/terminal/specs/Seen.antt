@@ -1,7 +1,7 @@
 -- What a caller of a terminal sees of an event.
 use Rattle.std.specs.Prelude.{ℕ, List, [], take, Some, None, Ok, Err, Option, Result}
-use Rattle.station.specs.declared.answer.Answer.{Answer}
-use Rattle.station.specs.declared.fault.KeyRefusal.{KeyRefusal}
+use Rattle.console.specs.declared.answer.Answer.{Answer}
+use Rattle.console.specs.declared.fault.KeyRefusal.{KeyRefusal}
 use Rattle.station.specs.declared.fault.OctetRefusal.{OctetRefusal}
 use Rattle.station.specs.declared.fault.Refusal.{Refusal}
 use Rattle.station.specs.declared.fault.Refusal.TheVariants.{Key, Octet}

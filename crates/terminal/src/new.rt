@@ -5,7 +5,7 @@ ghost use Rattle.receiver.specs.Receiving.{idle};
 ghost use Rattle.screen.specs.Cells.{blank};
 ghost use Rattle.screen.specs.Grid.{with_cells};
 ghost use Rattle.edit.specs.View.{size};
-ghost use Rattle.station.specs.Console.{new_console};
+ghost use Rattle.console.specs.Console.{new_console};
 ghost use Rattle.station.specs.Meaning.{console_of};
 ghost use Rattle.history.specs.Trace.{New};
 ghost use Rattle.terminal.specs.Meaning.{state_of};
@@ -16,8 +16,8 @@ use edit::edits::{Change, Edit};
 use line::Line;
 use receiver::message::Receiver;
 use screen::interface::Screen;
-use station::console::Console;
 use station::identity::Identity;
+use station::state::Console;
 
 // Makes every cell an open space.
 fn clear<S: Screen>(screen: &mut S)

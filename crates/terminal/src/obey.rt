@@ -2,22 +2,24 @@
 ghost use Rattle.std.specs.Prelude.{◌≡◌, ◌≤◌, false, length, Some, None, Ok};
 ghost use Rattle.area.specs.Over.{over};
 ghost use Rattle.text.specs.Steps.{steps_of};
-ghost use Rattle.station.specs.declared.fault.MessageFault as fault;
-ghost use Rattle.station.specs.Console.{polled, spoken, acknowledges_text};
+ghost use Rattle.console.specs.declared.fault.MessageFault as fault;
+ghost use Rattle.console.specs.Console.{acknowledges_text};
+ghost use Rattle.station.specs.Addressed.{polled, spoken};
 ghost use Rattle.station.specs.Meaning.{console_of, station_of};
 ghost use Rattle.station.specs.Station.{carries_out, obeyed};
 ghost use Rattle.station.specs.Terminal.{told};
 
 use crate::send::{send_enquiry, send_no_traffic, send_reply};
 use area::Refusal;
+use console::answer::Answer;
+use console::fault::{Cause, Fault};
 use host::carry::carry_out;
 use line::Line;
 use screen::interface::Screen;
 use station::action::MessageAction;
-use station::answer::Answer;
-use station::console::Console;
-use station::fault::{Cause, Fault, OctetRefusal};
+use station::fault::OctetRefusal;
 use station::identity::Identity;
+use station::state::Console;
 
 // What there is to send, or no traffic: the answer to a poll with nothing outstanding.
 fn send_fresh<L: Line>(

@@ -4,12 +4,12 @@ ghost use Rattle.screen.specs.Answers.{read_at};
 ghost use Rattle.terminal.specs.Meaning.{state_of, text_in};
 
 use crate::terminal::Terminal;
+use console::outstanding::Outstanding;
 use edit::cell::on_screen;
 use line::Line;
 use screen::interface::Screen;
 use screen::refusal::Refusal;
 use station::identity::Identity;
-use station::outstanding::Outstanding;
 
 impl<'s, L: Line, S: Screen> Terminal<'s, L, S> {
     // The screen, whose cells are the terminal's.

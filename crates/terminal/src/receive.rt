@@ -8,10 +8,11 @@ ghost use Rattle.terminal.specs.Meaning.{state_of};
 ghost use Rattle.terminal.specs.Seen.{seen_key, seen_octet};
 
 use crate::terminal::Terminal;
+use console::answer::Answer;
+use console::fault::KeyRefusal;
 use line::Line;
 use screen::interface::Screen;
-use station::answer::Answer;
-use station::fault::{KeyRefusal, OctetRefusal};
+use station::fault::OctetRefusal;
 
 impl<'s, L: Line, S: Screen> Terminal<'s, L, S> {
     // Presses a key.

@@ -8,10 +8,11 @@ ghost use Rattle.terminal.specs.Events.{event_of};
 ghost use Rattle.terminal.specs.Meaning.{state_of};
 
 use crate::terminal::Terminal;
+use console::answer::Answer;
+use console::fault::KeyRefusal;
 use line::Line;
 use screen::interface::Screen;
-use station::answer::Answer;
-use station::fault::{KeyRefusal, OctetRefusal, Refusal};
+use station::fault::{OctetRefusal, Refusal};
 use std::alloc::{AllocError, Global};
 
 #[derive(Clone, Copy)]

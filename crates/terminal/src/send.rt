@@ -2,19 +2,20 @@
 ghost use Rattle.std.specs.Prelude.{◌≡◌, ◌+◌, ◌≤◌, ◌++◌, length, Ok};
 ghost use Rattle.area.specs.Over.{over};
 ghost use Rattle.reply.specs.Octets.{no_traffic_octets};
-ghost use Rattle.station.specs.Console.{enquiry, framed, content, load_codes};
+ghost use Rattle.console.specs.Console.{content, load_codes};
+ghost use Rattle.station.specs.Addressed.{enquiry, framed};
 ghost use Rattle.station.specs.Meaning.{console_of};
 
 use area::Refusal;
 use codes::{DLE, ENQ, ETX, STX};
+use console::outstanding::{Load, Outstanding};
 use line::Line;
 use message::ACKNOWLEDGE;
 use reply::begun::{Begun, Closed};
 use reply::no_traffic::no_traffic;
 use station::action::DID;
-use station::console::Console;
 use station::identity::Identity;
-use station::outstanding::{Load, Outstanding};
+use station::state::Console;
 
 // A reply with SOH: the station's addresses, an acknowledgement or nothing, what begins the load, and the rest of it.
 fn compose<L: Line>(

@@ -11,14 +11,15 @@ ghost use Rattle.terminal.specs.Meaning.{state_of};
 use crate::obey::obey;
 use crate::terminal::Terminal;
 use area::Refusal;
+use console::answer::Answer;
+use console::fault::{Fault, KeyRefusal};
 use line::Line;
 use receiver::message::Receiver;
 use receiver::receive::Event;
 use screen::interface::Screen;
-use station::answer::Answer;
-use station::console::Console;
-use station::fault::{Fault, KeyRefusal, OctetRefusal};
+use station::fault::OctetRefusal;
 use station::identity::Identity;
+use station::state::Console;
 
 // The longest reply fits into so many octets.
 pub const ROOM: usize = 5800;

@@ -1,7 +1,7 @@
 // A terminal over any line and any screen.
 use receiver::message::Receiver;
-use station::console::Console;
 use station::identity::Identity;
+use station::state::Console;
 
 // The screen is held by reference: its cells are the terminal's, and there is no copy of them.
 #[derive(Drop)]

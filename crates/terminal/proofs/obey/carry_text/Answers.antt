@@ -4,7 +4,7 @@ use Rattle.edit.specs.View.{at}
 use Rattle.host.specs.Drawing.{drawn_all}
 use Rattle.host.specs.Carrying.{is_some, held_of}
 use Rattle.host.proofs.Steps.{at_on, drawn_all_on}
-use Rattle.station.specs.declared.fault.MessageFault.{MessageFault}
+use Rattle.console.specs.declared.fault.MessageFault.{MessageFault}
 use Rattle.station.specs.Meaning.{console_of}
 use Rattle.station.specs.Station.{said}
 use Rattle.station.proofs.Views.{left_at}

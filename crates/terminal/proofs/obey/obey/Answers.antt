@@ -1,7 +1,8 @@
 use Rattle.std.proofs.Common.{◌≡◌, Ok, rules, ap}
 use Rattle.area.specs.Over.{over}
 use Rattle.station.specs.Meaning.{station_of}
-use Rattle.station.specs.Messages.{carry_out, decide_message}
+use Rattle.console.specs.Messages.{carry_out}
+use Rattle.station.specs.Addressed.{decide_message}
 use Rattle.station.specs.Station.{message_outcome}
 use Rattle.terminal.proofs.obey.obey.Goals as goal
 

@@ -3,7 +3,7 @@ use Rattle.std.proofs.lemmas.List.{append_assoc}
 use Rattle.codes.specs.Ascii.{ETX}
 use Rattle.reply.specs.Octets.{soh_first}
 use Rattle.reply.specs.Progress.{Shows}
-use Rattle.station.specs.Console.{DID}
+use Rattle.console.specs.Console.{DID}
 use Rattle.terminal.proofs.send.compose.Goals as goal
 
 pub returns : goal.returns

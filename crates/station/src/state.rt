@@ -1,5 +1,5 @@
 // What a terminal has beside its screen, its line and its receiver.
-use crate::outstanding::Outstanding;
+use console::outstanding::Outstanding;
 use host::state::State;
 
 #[derive(Drop)]

@@ -6,7 +6,7 @@ use Rattle.host.proofs.Steps.{at_on}
 use Rattle.station.specs.Meaning.{console_of}
 use Rattle.station.specs.Station.{Station}
 use Rattle.station.proofs.Views.{left_at}
-use Rattle.station.proofs.console.Console.edit.Goals as goal
+use Rattle.station.proofs.state.Console.edit.Goals as goal
 
 pub returns : goal.returns
 returns g c =

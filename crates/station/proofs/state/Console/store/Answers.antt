@@ -7,7 +7,7 @@ use Rattle.host.proofs.Steps.{at_on}
 use Rattle.station.specs.Meaning.{console_of}
 use Rattle.station.specs.Station.{Station}
 use Rattle.station.proofs.Views.{left_at}
-use Rattle.station.proofs.console.Console.store.Goals as goal
+use Rattle.station.proofs.state.Console.store.Goals as goal
 
 pub returns-in-Some : goal.returns-in-Some
 returns-in-Some g c =
