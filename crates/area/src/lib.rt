@@ -5,6 +5,8 @@ ghost use Rattle.std.specs.Prelude.{◌≡◌};
 ghost use Rattle.area.specs.Over.{fits};
 ghost use Rattle.area.specs.Numbers.{number_of};
 
+use numbered::Numbered;
+
 // Why an area is refused, by number.
 #[derive(Clone, Copy, PartialEq, Eq, Debug)]
 pub enum Refusal {
@@ -12,11 +14,11 @@ pub enum Refusal {
     ShortArea = 6,
 }
 
-impl Refusal {
-    pub fn number(self) -> u8
-        ensures { result ≡ number_of self }
-    {
-        self as u8
+impl Numbered for Refusal {
+    ghost number_of = { number_of };
+
+    fn number(&self) -> u8 {
+        *self as u8
     }
 }
 

@@ -3,6 +3,7 @@ use crate::octets::{codes, layer};
 use capture::content::Reply;
 use codes::BEL;
 use message::Form;
+use numbered::Numbered;
 use receiver::fault::{Cause, Fault, ReceiverFault};
 use std::io;
 use std::io::Write;

@@ -1,4 +1,5 @@
 // One line for each octet.
+use numbered::Numbered;
 use receiver::fault::{Cause, Fault};
 use receiver::receive::Event;
 use script::hex;

@@ -3,6 +3,7 @@ use crate::pages;
 use codes::SPACE;
 use host::carry::carry_out;
 use host::state::State;
+use numbered::Numbered;
 use picture::cells::{Cells, Shown};
 use picture::plain;
 use screen::interface::Screen;

@@ -1,5 +1,6 @@
 // The lines of a script that keep a screen as a page.
 use crate::lines::octets;
+use numbered::Numbered;
 use page::read::read_page;
 use page::refusal::Refusal;
 use page::write::write_page;

@@ -1,6 +1,7 @@
 // A script: screens one after the other, and what is done on each.
 use crate::lines::{is_line, line};
 use host::state::State;
+use numbered::Numbered;
 use script::error::{Problem, RunError};
 use script::words::{Token, Words};
 use stack::build::{Visitor, build};

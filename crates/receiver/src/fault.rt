@@ -4,6 +4,7 @@ ghost use Rattle.receiver.specs.declared.fault.Cause.TheVariants.{Line};
 ghost use Rattle.receiver.specs.Numbers.{number_of};
 
 use line::LineFault;
+use numbered::Numbered;
 
 // Why the receiver refuses, by the number of the refusal.
 #[derive(Clone, Copy, PartialEq, Eq, Debug)]
@@ -19,11 +20,10 @@ pub enum Cause {
     Receiver(ReceiverFault),
 }
 
-impl Cause {
-    // The number of the refusal.
-    pub fn number(&self) -> u8
-        ensures { result ≡ number_of self.now }
-    {
+impl Numbered for Cause {
+    ghost number_of = { number_of };
+
+    fn number(&self) -> u8 {
         match self {
             Cause::Line(fault) => *fault as u8,
             Cause::Receiver(fault) => *fault as u8,

@@ -1,5 +1,6 @@
 // The receiver at its edges.
 use line::LineFault;
+use numbered::Numbered;
 use receiver::check::block_check;
 use receiver::fault::{Cause, Fault, ReceiverFault};
 use receiver::message::Receiver;

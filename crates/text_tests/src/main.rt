@@ -6,6 +6,7 @@ use codes::SPACE;
 use edit::cell::{cell_at, cell_count};
 use host::carry::carry_out;
 use host::state::State;
+use numbered::Numbered;
 use screen::interface::Screen;
 use screen::refusal::Refusal;
 use std::alloc::Global;
