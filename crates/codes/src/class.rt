@@ -1,5 +1,5 @@
 // The class of each code.
-ghost use Rattle.std.specs.Prelude.{◌≡◌, ◌<◌};
+ghost use Rattle.std.specs.Prelude.{◌≡◌};
 ghost use Rattle.codes.specs.Classes.{class_of};
 
 use Class::{Control, Data, Fill, Framing};
@@ -26,19 +26,11 @@ static CLASSES: [Class; 128] = [
     Control,
 ];
 
-// The table's class of one of the 128 codes.
-fn listed(code: u8) -> Class
-    requires { code < 128 }
-    ensures { result ≡ class_of code }
-{
-    CLASSES[code as usize]
-}
-
 impl Class {
     // The class of a code. An octet of 80 or more is no code, and counts as a control without a rule.
     pub fn of(code: u8) -> Class
         ensures { result ≡ class_of code }
     {
-        if code < 0x80 { listed(code) } else { Control }
+        CLASSES.get(code as usize).copied().unwrap_or(Control)
     }
 }
