@@ -1,9 +1,10 @@
 // The asynchronous line: even parity, always in step, no lead.
 ghost use Rattle.line.specs.Parity.{asynchronous};
-ghost use Rattle.line.specs.Octets.{asynchronous_back, asynchronous_detects, asynchronous_range};
+ghost use Rattle.line.specs.Octets.{gives_back, detects, in_range};
+ghost use Rattle.line.specs.declared.parity.Parity.TheVariants.{Even};
 ghost use Rattle.std.proofs.Common.{rules};
 
-use crate::parity::{low_seven, parity, with_top};
+use crate::parity::Parity;
 use crate::{Line, LineFault};
 
 #[derive(Clone, Copy)]
@@ -14,13 +15,13 @@ impl Line for AsyncLine {
 
     ghost wants = { λ _. 0 };
 
-    ghost back = { asynchronous_back };
+    ghost back = { gives_back Even };
 
-    ghost detects = { asynchronous_detects };
+    ghost detects = { detects Even };
 
     ghost lead = { Prim.search rules };
 
-    ghost range = { asynchronous_range };
+    ghost range = { in_range Even };
 
     fn new() -> AsyncLine {
         AsyncLine
@@ -35,15 +36,10 @@ impl Line for AsyncLine {
     }
 
     fn take(&mut self, octet: u8) -> Result<Option<u8>, LineFault> {
-        if parity(octet) == 0 {
-            Ok(Some(low_seven(octet)))
-        } else {
-            Err(LineFault::Parity)
-        }
+        Parity::Even.character(octet).map(Some)
     }
 
     fn encode(&self, code: u8) -> u8 {
-        let character = low_seven(code);
-        with_top(character, parity(character))
+        Parity::Even.octet(code)
     }
 }

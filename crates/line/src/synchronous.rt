@@ -1,9 +1,10 @@
 // The synchronous line: odd parity, two SYN octets to come into step, a lead of four.
 ghost use Rattle.line.specs.Parity.{synchronous};
-ghost use Rattle.line.specs.Octets.{synchronous_back, synchronous_detects, synchronous_range};
+ghost use Rattle.line.specs.Octets.{gives_back, detects, in_range};
+ghost use Rattle.line.specs.declared.parity.Parity.TheVariants.{Odd};
 ghost use Rattle.std.proofs.Common.{rules};
 
-use crate::parity::{low_seven, parity, with_top};
+use crate::parity::Parity;
 use crate::{Line, LineFault};
 use codes::SYN;
 
@@ -19,13 +20,13 @@ impl Line for SyncLine {
 
     ghost wants = { λ s. s.wanted };
 
-    ghost back = { synchronous_back };
+    ghost back = { gives_back Odd };
 
-    ghost detects = { synchronous_detects };
+    ghost detects = { detects Odd };
 
     ghost lead = { Prim.search rules };
 
-    ghost range = { synchronous_range };
+    ghost range = { in_range Odd };
 
     fn new() -> SyncLine {
         SyncLine { wanted: FULL }
@@ -41,11 +42,11 @@ impl Line for SyncLine {
 
     fn take(&mut self, octet: u8) -> Result<Option<u8>, LineFault> {
         if self.wanted == 0 {
-            if parity(octet) == 1 {
-                return Ok(Some(low_seven(octet)));
+            let given = Parity::Odd.character(octet).map(Some);
+            if given.is_err() {
+                self.wanted = FULL;
             }
-            self.wanted = FULL;
-            return Err(LineFault::Parity);
+            return given;
         }
         if octet == self.encode(SYN) {
             self.wanted -= 1;
@@ -56,7 +57,6 @@ impl Line for SyncLine {
     }
 
     fn encode(&self, code: u8) -> u8 {
-        let character = low_seven(code);
-        with_top(character, 1 - parity(character))
+        Parity::Odd.octet(code)
     }
 }
