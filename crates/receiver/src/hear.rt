@@ -16,15 +16,11 @@ impl Receiver {
         ensures message { message_of self.new ≡ [] }
         ensures answers { result ≡ counted given (state_of self.old) }
     {
-        self.whole = 0;
-        match given {
-            Ok(character) => Ok(character),
-            Err(fault) => {
-                let kept = self.count();
-                self.phase = Phase::Idle;
-                Err(BadOctet { fault, kept })
-            }
+        let kept = self.count();
+        if given.is_err() || self.phase == Phase::Finished {
+            self.phase = Phase::Idle;
         }
+        given.map_err(|fault| BadOctet { fault, kept })
     }
 
     // One octet from the line.

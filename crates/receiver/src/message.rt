@@ -1,11 +1,13 @@
 // The receiver's record of a message.
 ghost use Rattle.std.specs.Prelude.{◌≡◌, ◌≤◌, length};
 
-#[derive(Clone, Copy)]
+// Where a message stands. A finished one stays to be read until the next octet.
+#[derive(Clone, Copy, PartialEq, Eq, Debug)]
 pub enum Phase {
     Idle,
     Collecting,
     Awaiting,
+    Finished,
 }
 
 // The characters kept, in the first len places.
@@ -15,13 +17,10 @@ pub struct Kept {
     pub(crate) len: usize,
 }
 
-// A message that was finished by the last octet has whole characters, which stand before those kept; else whole is 0.
 #[derive(Drop)]
 pub struct Receiver {
     pub(crate) kept: Kept,
     pub(crate) phase: Phase,
-    pub(crate) whole: usize,
     ghost room: { length kept.characters ≡ 6000 },
     ghost fits: { kept.len ≤ 6000 },
-    ghost finished: { whole ≤ 6000 },
 }

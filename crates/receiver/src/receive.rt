@@ -34,11 +34,11 @@ impl Kept {
         self.len += 1;
     }
 
-    fn check(&self) -> u8
+    fn all(&self) -> &[u8]
         requires { self.now.len ≤ 6000 }
-        ensures { result ≡ block_check (kept_of self.now) }
+        ensures { result.now ≡ kept_of self.now }
     {
-        block_check(&self.characters[0..self.len])
+        &self.characters[..self.len]
     }
 }
 
@@ -53,7 +53,6 @@ impl Receiver {
                 len: 0,
             },
             phase: Phase::Idle,
-            whole: 0,
         }
     }
 
@@ -62,9 +61,8 @@ impl Receiver {
         ensures { result ≡ count (state_of self.now) }
     {
         match self.phase {
-            Phase::Idle => 0,
-            Phase::Collecting => self.kept.len,
-            Phase::Awaiting => self.kept.len,
+            Phase::Collecting | Phase::Awaiting => self.kept.len,
+            Phase::Idle | Phase::Finished => 0,
         }
     }
 
@@ -72,7 +70,10 @@ impl Receiver {
     pub fn message(&self) -> &[u8]
         ensures { result.now ≡ message_of self.now }
     {
-        &self.kept.characters[0..self.whole]
+        match self.phase {
+            Phase::Finished => self.kept.all(),
+            Phase::Idle | Phase::Collecting | Phase::Awaiting => &[],
+        }
     }
 
     // One character.
@@ -81,17 +82,18 @@ impl Receiver {
         ensures message { message_of self.new ≡ (step (state_of self.old) character).message }
         ensures answers { result ≡ (step (state_of self.old) character).answer }
     {
-        self.whole = 0;
         match self.phase {
             Phase::Awaiting => self.close(character),
             _ if character == SOH => Ok(self.begin()),
-            Phase::Idle => Ok(Event::Nothing),
             Phase::Collecting => self.collect(character),
+            Phase::Idle | Phase::Finished => {
+                self.phase = Phase::Idle;
+                Ok(Event::Nothing)
+            }
         }
     }
 
     fn begin(&mut self) -> Event
-        requires { self.old.whole ≡ 0 }
         ensures after { state_of self.new ≡ collecting [] }
         ensures message { message_of self.new ≡ [] }
         ensures answers { result ≡ Event.Begun }
@@ -103,19 +105,18 @@ impl Receiver {
 
     // A character while collecting.
     fn collect(&mut self, character: u8) -> Result<Event, Fault>
-        requires { (self.old.whole ≡ 0) × (self.old.phase ≡ Phase.Collecting) }
+        requires { self.old.phase ≡ Phase.Collecting }
         ensures after { state_of self.new ≡ (collect (class_of character) (kept_of self.old.kept) character).state }
         ensures message { message_of self.new ≡ (collect (class_of character) (kept_of self.old.kept) character).message }
         ensures answers { result ≡ (collect (class_of character) (kept_of self.old.kept) character).answer }
     {
-        if let Class::Fill = Class::of(character) {
+        if Class::of(character) == Class::Fill {
             return Ok(Event::Nothing);
         }
         self.keep(character)
     }
 
     fn keep(&mut self, character: u8) -> Result<Event, Fault>
-        requires { self.old.whole ≡ 0 }
         ensures after { state_of self.new ≡ (keep (kept_of self.old.kept) character).state }
         ensures message { message_of self.new ≡ (keep (kept_of self.old.kept) character).message }
         ensures answers { result ≡ (keep (kept_of self.old.kept) character).answer }
@@ -134,22 +135,19 @@ impl Receiver {
 
     // The block check.
     fn close(&mut self, character: u8) -> Result<Event, Fault>
-        requires { self.old.whole ≡ 0 }
         ensures after { state_of self.new ≡ (close (kept_of self.old.kept) character).state }
         ensures message { message_of self.new ≡ (close (kept_of self.old.kept) character).message }
         ensures answers { result ≡ (close (kept_of self.old.kept) character).answer }
     {
-        if character != self.kept.check() {
+        if character != block_check(self.kept.all()) {
             return Err(self.refuse(ReceiverFault::BlockCheck));
         }
-        self.phase = Phase::Idle;
-        self.whole = self.kept.len;
-        Ok(Event::Message(self.whole))
+        self.phase = Phase::Finished;
+        Ok(Event::Message(self.kept.len))
     }
 
     // A refusal drops the message.
     fn refuse(&mut self, fault: ReceiverFault) -> Fault
-        requires { self.old.whole ≡ 0 }
         ensures after { state_of self.new ≡ idle }
         ensures message { message_of self.new ≡ [] }
         ensures says { result ≡ record { cause = Cause.Receiver fault; kept = length (kept_of self.old.kept) } }
