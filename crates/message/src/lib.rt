@@ -2,7 +2,7 @@
 #![tactic(auto)]
 
 ghost use Rattle.std.specs.Prelude.{◌≡◌};
-ghost use Rattle.message.specs.Forms.{form_in, addressed, message_in};
+ghost use Rattle.message.specs.Forms.{form_in, message_in};
 ghost use Rattle.message.specs.Shown.{form_of, message_of};
 
 use codes::{DLE, ETX, NAK, STX};
@@ -11,7 +11,7 @@ use codes::{DLE, ETX, NAK, STX};
 pub const ACKNOWLEDGE: u8 = 0x31;
 
 // What follows the addresses.
-#[derive(Clone, Copy)]
+#[derive(Clone, Copy, PartialEq, Eq, Debug)]
 pub enum Form<'a> {
     Poll,
     PollAcknowledge,
@@ -20,7 +20,7 @@ pub enum Form<'a> {
 }
 
 // A message with its addresses, whatever stations they name.
-#[derive(Clone, Copy)]
+#[derive(Clone, Copy, PartialEq, Eq, Debug)]
 pub struct Message<'a> {
     pub rid: u8,
     pub sid: u8,
@@ -48,21 +48,14 @@ impl<'a> Message<'a> {
     pub fn read(characters: &'a [u8]) -> Option<Message<'a>>
         ensures { message_of result ≡ message_in characters.now }
     {
-        if characters.len() < 3 {
+        let [rid, sid, did, tail @ ..] = characters else {
             return None;
-        }
-        let form = Form::read(&characters[3..]);
-        Message::with_form(characters[0], characters[1], characters[2], form)
-    }
-
-    fn with_form(rid: u8, sid: u8, did: u8, form: Option<Form<'a>>) -> Option<Message<'a>>
-        ensures { message_of result ≡ addressed rid sid did (form_of form.entry) }
-    {
-        let form = form?;
+        };
+        let form = Form::read(tail)?;
         Some(Message {
-            rid,
-            sid,
-            did,
+            rid: *rid,
+            sid: *sid,
+            did: *did,
             form,
         })
     }
