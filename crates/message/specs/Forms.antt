@@ -1,5 +1,6 @@
 -- The forms of a message.
 use Rattle.std.specs.Prelude.{ℕ, ◌-◌, Bool, cond, ◌&&◌, List, length, take, drop, Some, None, Option, ◌==◌, nat_le, slice_index}
+use Rattle.std.specs.Option.{option_map}
 use Rattle.codes.specs.Ascii.{STX, ETX, DLE, NAK}
 
 pub data Form : Type 0 where
@@ -36,8 +37,7 @@ pub record Message : Type 0 where
   pub form : Form
 
 abbrev pub addressed : ℕ → ℕ → ℕ → Option Form → Option Message
-addressed rid sid did None = None
-addressed rid sid did (Some f) = Some (record { rid = rid; sid = sid; did = did; form = f })
+addressed rid sid did = option_map (λ f. record { rid = rid; sid = sid; did = did; form = f })
 
 -- the message in some characters, if they have a form
 abbrev pub message_in : List ℕ → Option Message

@@ -1,5 +1,6 @@
 -- What the code's forms and messages stand for.
-use Rattle.std.specs.Prelude.{Some, None, Option}
+use Rattle.std.specs.Prelude.{Option}
+use Rattle.std.specs.Option.{option_map}
 use Rattle.message.specs.declared.Form as code_form
 use Rattle.message.specs.declared.Form.TheVariants.{Poll, PollAcknowledge, Repeat, Text}
 use Rattle.message.specs.declared.Message as code_message
@@ -12,13 +13,11 @@ the_form Repeat = repeat_request
 the_form (Text t) = text t.now
 
 abbrev pub form_of : Option code_form.Form → Option Form
-form_of None = None
-form_of (Some f) = Some (the_form f)
-
-abbrev pub message_of : Option code_message.Message → Option Message
-message_of None = None
-message_of (Some m) = Some (record { rid = m.rid; sid = m.sid; did = m.did; form = the_form m.form })
+form_of = option_map the_form
 
 -- what a message in the code stands for
 abbrev pub the_message : code_message.Message → Message
 the_message m = record { rid = m.rid; sid = m.sid; did = m.did; form = the_form m.form }
+
+abbrev pub message_of : Option code_message.Message → Option Message
+message_of = option_map the_message
