@@ -3,4 +3,4 @@ use Rattle.capture.specs.declared.watch.Offsets as code
 use Rattle.capture.specs.Offsets.{Place}
 
 abbrev pub place_of : code.Offsets → Place
-place_of o = record { octets = o.octets; begun = o.begun; over = o.over }
+place_of o = record { octets = o.octets; message = o.message }

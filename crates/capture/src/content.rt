@@ -7,7 +7,7 @@ use codes::{BEL, DLE, ENQ, ETX, STX};
 use message::ACKNOWLEDGE;
 
 // An acknowledgement by itself has the codes of a poll with acknowledgement, and a text by itself those of a host text.
-#[derive(Clone, Copy)]
+#[derive(Clone, Copy, PartialEq, Eq, Debug)]
 pub enum Reply<'a> {
     // DLE ENQ: the reply before is still to be acknowledged
     Enquiry,

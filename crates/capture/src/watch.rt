@@ -5,7 +5,7 @@ ghost use Rattle.line.specs.Octet.{wanted};
 ghost use Rattle.receiver.specs.Receiving.{State, idle, count, Next};
 ghost use Rattle.receiver.specs.Meaning.{state_of, message_of};
 ghost use Rattle.receiver.specs.Hearing.{hear};
-ghost use Rattle.capture.specs.Offsets.{Place, placed, new_place, under_way};
+ghost use Rattle.capture.specs.Offsets.{Place, placed, new_place, begun, under_way};
 ghost use Rattle.capture.specs.Meaning.{place_of};
 
 use line::Line;
@@ -13,13 +13,20 @@ use receiver::fault::Fault;
 use receiver::message::Receiver;
 use receiver::receive::Event;
 
-// How many octets there were, and the offset of the SOH of the message that the last one began, went on with,
-// finished or dropped, if there was one. After a message is over, the next octet belongs to none, or begins one.
+// The message to which the last octet belongs, by the offset of its SOH: it is under way, or that octet finished or
+// dropped it. Between two messages an octet belongs to none.
+#[derive(Clone, Copy, PartialEq, Eq, Debug)]
+pub enum Standing {
+    Between,
+    UnderWay(u64),
+    Over(u64),
+}
+
+// How many octets there were, and the message of the last one.
 #[derive(Clone, Copy)]
 pub struct Offsets {
     octets: u64,
-    begun: Option<u64>,
-    over: bool,
+    message: Standing,
 }
 
 impl Offsets {
@@ -28,24 +35,20 @@ impl Offsets {
     {
         Offsets {
             octets: 0,
-            begun: None,
-            over: false,
+            message: Standing::Between,
         }
     }
 
     // One octet more, which was answered so.
-    fn count(&mut self, answer: &Result<Event, Fault>)
-        ensures { place_of self.new ≡ placed answer.now (place_of self.old) }
+    fn count(&mut self, answer: Result<Event, Fault>)
+        ensures { place_of self.new ≡ placed answer (place_of self.old) }
     {
-        if self.over {
-            self.begun = None;
-        }
-        self.over = false;
-        match answer {
-            Ok(Event::Nothing) => {}
-            Ok(Event::Begun) => self.begun = Some(self.octets),
-            Ok(Event::Message(_)) | Err(_) => self.over = true,
-        }
+        self.message = match (answer, self.message) {
+            (Ok(Event::Begun), _) => Standing::UnderWay(self.octets),
+            (Ok(Event::Nothing), Standing::UnderWay(at)) => Standing::UnderWay(at),
+            (Ok(Event::Message(_)) | Err(_), Standing::UnderWay(at)) => Standing::Over(at),
+            (_, Standing::Between | Standing::Over(_)) => Standing::Between,
+        };
         self.octets = self.octets.saturating_add(1);
     }
 }
@@ -81,7 +84,7 @@ impl<L: Line> Capture<L> {
         ensures place { place_of self.new.offsets ≡ placed result (place_of self.old.offsets) }
     {
         let answer = self.receiver.hear(&mut self.line, octet);
-        self.offsets.count(&answer);
+        self.offsets.count(answer);
         answer
     }
 
@@ -101,19 +104,21 @@ impl<L: Line> Capture<L> {
 
     // The offset of the SOH of the message that the last octet belongs to.
     pub fn begun(&self) -> Option<u64>
-        ensures { result ≡ (place_of self.now.offsets).begun }
+        ensures { result ≡ begun (place_of self.now.offsets).message }
     {
-        self.offsets.begun
+        match self.offsets.message {
+            Standing::Between => None,
+            Standing::UnderWay(at) | Standing::Over(at) => Some(at),
+        }
     }
 
     // The offset of the SOH of the message that is not yet over.
     pub fn unfinished(&self) -> Option<u64>
-        ensures { result ≡ under_way (place_of self.now.offsets) }
+        ensures { result ≡ under_way (place_of self.now.offsets).message }
     {
-        if self.offsets.over {
-            None
-        } else {
-            self.offsets.begun
+        match self.offsets.message {
+            Standing::UnderWay(at) => Some(at),
+            Standing::Between | Standing::Over(_) => None,
         }
     }
 
