@@ -1,5 +1,5 @@
 -- The steps that the code hands out, and what a reader has still to hand out.
-use Rattle.std.specs.Prelude.{List, [], ◌∷◌, drop, Some, None, Option}
+use Rattle.std.specs.Prelude.{List, drop}
 use Rattle.text.specs.declared.step.Step as code
 use Rattle.text.specs.declared.step.Step.TheVariants.{Run, Address, Escape, Control, Broken}
 use Rattle.text.specs.declared.reader.Reader.{Reader}
@@ -16,8 +16,3 @@ shown Broken = broken
 -- the steps still to be handed out
 abbrev pub unread : Reader → List Step
 unread r = steps r.place 0 (drop r.place r.text.now)
-
--- what is handed out and then the rest; nothing is handed out only at the end
-abbrev pub handed : Option code.Step → List Step → List Step
-handed None rest = []
-handed (Some s) rest = shown s ∷ rest

@@ -1,9 +1,10 @@
 // A reader that hands out the steps of a text one by one.
-ghost use Rattle.std.specs.Prelude.{◌≡◌, ◌+◌, ◌<◌, ◌≤◌, true, false, [], ◌∷◌, length, drop};
+ghost use Rattle.std.specs.Prelude.{◌≡◌, ◌+◌, ◌≤◌, [], ◌∷◌, length, drop, IfSome, IfNone};
+ghost use Rattle.std.specs.Iterator.{YieldsFirstBy, item_count};
 ghost use Rattle.std.specs.List.{prefix_len};
 ghost use Rattle.codes.specs.Classes.{is_data};
-ghost use Rattle.text.specs.Steps.{address_at, piece_at, steps_of};
-ghost use Rattle.text.specs.Shown.{shown, unread, handed};
+ghost use Rattle.text.specs.Steps.{address_at, steps, steps_of};
+ghost use Rattle.text.specs.Shown.{shown, unread};
 
 use crate::step::Step;
 use codes::class::Class;
@@ -16,61 +17,51 @@ pub struct Reader<'a> {
     place: usize,
 }
 
+#[tactic(auto, unfolding(codes::specs::Classes::class_of))]
 fn is_data(code: u8) -> bool
     ensures { result ≡ is_data code }
 {
-    match Class::of(code) {
-        Class::Data => true,
-        Class::Fill | Class::Framing | Class::Control => false,
+    Class::of(code) == Class::Data
+}
+
+// How many data characters a text begins with.
+fn run_len(text: &[u8]) -> usize
+    ensures run { result ≡ prefix_len is_data text.now }
+    ensures within { result ≤ length text.now }
+{
+    text.iter().take_while(|code| is_data(**code)).count()
+}
+
+// What ESC VT makes with what follows, and how many characters they take together.
+fn address_step<'a>(after: &[u8]) -> (Step<'a>, usize)
+    ensures step { shown result.0 ≡ (address_at after.now).step }
+    ensures taken { result.1 ≡ (address_at after.now).taken }
+{
+    match after {
+        [row, column, SI, ..] if is_data(*row) && is_data(*column) => {
+            (Step::Address(row - SPACE, column - SPACE), 5)
+        }
+        _ => (Step::Broken, 2 + run_len(after).min(2)),
     }
 }
 
-// Where the data characters from a place on end.
-fn run_end(text: &[u8], from: usize) -> usize
-    ensures { result ≡ from + prefix_len is_data (drop from text.now) }
+// The first step of what is left of a text at a place, and how many characters it takes.
+fn first_step<'a>(rest: &'a [u8], place: usize) -> Option<(Step<'a>, usize)>
+    ensures none { IfNone result (rest.now ≡ []) }
+    ensures within { IfSome result (λ s. s.1 ≤ length rest.now) }
+    ensures some { IfSome result (λ s. steps place 0 rest.now ≡ shown s.0 ∷ steps (place + s.1) 0 (drop s.1 rest.now)) }
 {
-    let mut at = from;
-    while at < text.len() && is_data(text[at]) {
-        at += 1;
+    match rest {
+        [] => None,
+        [code, ..] if is_data(*code) => {
+            let len = run_len(rest);
+            Some((Step::Run(&rest[..len], place), len))
+        }
+        [ESC] => Some((Step::Broken, 1)),
+        [ESC, VT, after @ ..] => Some(address_step(after)),
+        [ESC, code, ..] => Some((Step::Escape(*code as char), 2)),
+        [code, ..] => Some((Step::Control(*code), 1)),
     }
-    at
-}
-
-// What ESC VT makes with what follows at a place, and how many characters they take together.
-fn address_at<'a>(text: &'a [u8], at: usize) -> (Step<'a>, usize)
-    requires { at ≤ length text.now }
-    ensures step { shown result.0 ≡ (address_at (drop at text.now)).step }
-    ensures taken { result.1 ≡ (address_at (drop at text.now)).taken }
-{
-    let data = run_end(text, at) - at;
-    if data >= 2 && at + 2 < text.len() && text[at + 2] == SI {
-        return (Step::Address(text[at] - SPACE, text[at + 1] - SPACE), 5);
-    }
-    (Step::Broken, 2 + data.min(2))
-}
-
-// The step at a place, and how many characters it takes.
-fn step_at<'a>(text: &'a [u8], at: usize) -> (Step<'a>, usize)
-    requires { at < length text.now }
-    ensures step { shown result.0 ≡ (piece_at at text.now).step }
-    ensures taken { result.1 ≡ (piece_at at text.now).taken }
-{
-    let code = text[at];
-    if is_data(code) {
-        let end = run_end(text, at);
-        return (Step::Run(&text[at..end], at), end - at);
-    }
-    if code != ESC {
-        return (Step::Control(code), 1);
-    }
-    if at + 1 >= text.len() {
-        return (Step::Broken, 1);
-    }
-    let second = text[at + 1];
-    if second == VT {
-        return address_at(text, at + 2);
-    }
-    (Step::Escape(second as char), 2)
 }
 
 impl<'a> Reader<'a> {
@@ -79,35 +70,20 @@ impl<'a> Reader<'a> {
     {
         Reader { text, place: 0 }
     }
+}
 
-    // Whether every octet of the text is taken.
-    fn is_done(&self) -> bool
-        ensures done { result ≡ true → unread self.now ≡ [] }
-        ensures more { result ≡ false → self.now.place < length self.now.text.now }
-    {
-        self.place >= self.text.len()
-    }
+// Each step in its turn, until every octet of the text is taken.
+impl<'a> Iterator for Reader<'a> {
+    type Item = Step<'a>;
 
-    // Takes the step at the reader's place.
-    fn take(&mut self) -> Step<'a>
-        requires { self.old.place < length self.old.text.now }
-        ensures { unread self.old ≡ shown result ∷ unread self.new }
-    {
-        let text = self.text;
-        let at = self.place;
-        let (step, taken) = step_at(text, at);
-        self.place = at + taken;
-        step
-    }
+    ghost next_gives = { YieldsFirstBy shown unread };
 
-    // The next step; none once every octet of the text is taken.
-    pub fn next(&mut self) -> Option<Step<'a>>
-        ensures { unread self.old ≡ handed result (unread self.new) }
-    {
-        if self.is_done() {
-            None
-        } else {
-            Some(self.take())
-        }
+    ghost remaining = { item_count unread };
+
+    fn next(&mut self) -> Option<Step<'a>> {
+        let rest = self.text.get(self.place..)?;
+        let (step, taken) = first_step(rest, self.place)?;
+        self.place += taken;
+        Some(step)
     }
 }

@@ -1,5 +1,5 @@
 // One step of a host text.
-#[derive(Clone, Copy)]
+#[derive(Clone, Copy, PartialEq, Eq, Debug)]
 pub enum Step<'a> {
     // data characters: a part of the text, with its place there
     Run(&'a [u8], usize),
