@@ -1,5 +1,5 @@
 -- A host text, one step on.
-use Rattle.std.proofs.Common.{◌≡◌, ℕ, ◌%◌, ◌<◌, Bool, true, false, cond, ◌||◌, eqb, List, [], ◌∷◌, Some, None, Option, sym, refl, ap, ◌∙◌, subst, mod-eq_of_lt, arith}
+use Rattle.std.proofs.Common.{◌≡◌, ℕ, ◌%◌, ◌<◌, Bool, cond, ◌||◌, eqb, List, [], ◌∷◌, Some, None, Option, sym, refl, ap, ◌∙◌, subst, mod-eq_of_lt, arith}
 use native.Mathlib.Nat.{mod-mod}
 use Rattle.std.proofs.lemmas.Bool.{cond_both}
 use Rattle.std.proofs.lemmas.Nat.{mod_below}
@@ -16,12 +16,11 @@ use Rattle.edit.specs.Laws.{OnScreen}
 use Rattle.edit.proofs.Sizes.{size_least}
 use Rattle.edit.proofs.Keeps.{edited_on, addressed_on, typed_on}
 use Rattle.host.specs.declared.effect.Effect.{Effect}
-use Rattle.host.specs.declared.effect.Effect.TheVariants.{Nothing, Lock, Light, Transmit}
+use Rattle.host.specs.declared.effect.Effect.TheVariants.{Lock, Light, Transmit}
 use Rattle.host.specs.Laws.{is_transmission, steps_before, first_transmission}
 use Rattle.host.specs.Drawing.{effect, protects, edited_by, drawn, drawn_all}
-use Rattle.transmission.specs.Held.{text_of}
-use Rattle.host.specs.declared.state.State.{State}
-use Rattle.host.specs.Carrying.{took, taking, or_else, is_some, held_of}
+use Rattle.host.specs.Carrying.{took, taking}
+use Rattle.std.specs.Option.{option_or}
 
 -- the cursor stays on the screen
 pub at_on : (g : Grid) (p : ℕ) → Sound g → OnScreen (at g p)
@@ -59,42 +58,22 @@ drawn_step g h p q m s ok e =
     let on : q < size h = (subst OnScreen (sym e) (drawn_on m s (at g p) (at_on g p ok))).on in
     (on, at_view h q on ∙ e)
 
--- tests and texts, one step on
-pub or_assoc : (a b c : Bool) → ((a || b) || c) ≡ (a || (b || c))
-or_assoc true b c = refl
-or_assoc false b c = refl
-
-pub or_false : (a : Bool) → (a || false) ≡ a
-or_false true = refl
-or_false false = refl
-
-pub or_else_assoc : (a b c : Option (List ℕ)) → or_else (or_else a b) c ≡ or_else a (or_else b c)
-or_else_assoc None b c = refl
-or_else_assoc (Some t) b c = refl
-
-pub or_else_none : (a : Option (List ℕ)) → or_else a None ≡ a
-or_else_none None = refl
-or_else_none (Some t) = refl
-
--- whether a text is held
-pub is_held : (s : State) → is_some (held_of s) ≡ s.holds
-is_held s = held_by s.holds
-  where
-    held_by : (b : Bool) → is_some (cond b (Some (text_of s.text)) None) ≡ b
-    held_by true = refl
-    held_by false = refl
+-- the first of three texts
+pub option_or_assoc : (a b c : Option (List ℕ)) → option_or (option_or a b) c ≡ option_or a (option_or b c)
+option_or_assoc None b c = refl
+option_or_assoc (Some t) b c = refl
 
 -- a place going round goes round no further
-pub at_again : (g : Grid) (p : ℕ) → at g (p % size g) ≡ at g p
-at_again g p = ap (view g) (mod-mod p (size g))
+pub at_again : (g : Grid) (p q : ℕ) → q ≡ p % size g → at g q ≡ at g p
+at_again g p q e = ap (λ k. view g (k % size g)) e ∙ ap (view g) (mod-mod p (size g))
 
 -- a text's transmission, by its first step: before it the steps go on, with it the text is taken
 taken_by : (m : Bool) (s : Step) (ss : List Step) (v : View) (rest : Option (List ℕ)) → rest ≡ took (first_transmission ss) (drawn_all (protects m s) (steps_before ss) (drawn m s v))
-    → (e : Effect) → or_else (took e v) rest ≡ took (cond (is_transmission e) e (first_transmission ss)) (drawn_all m (cond (is_transmission e) [] (s ∷ steps_before ss)) v)
-taken_by m s ss v rest h Nothing = h
-taken_by m s ss v rest h Lock = h
-taken_by m s ss v rest h Light = h
-taken_by m s ss v rest h (Transmit k) = refl
+    → (e : Option Effect) → option_or (took e v) rest ≡ took (cond (is_transmission e) e (first_transmission ss)) (drawn_all m (cond (is_transmission e) [] (s ∷ steps_before ss)) v)
+taken_by m s ss v rest h None = h
+taken_by m s ss v rest h (Some Lock) = h
+taken_by m s ss v rest h (Some Light) = h
+taken_by m s ss v rest h (Some (Transmit k)) = refl
 
 pub taken_before : (m : Bool) (ss : List Step) (v : View) → taking m ss v ≡ took (first_transmission ss) (drawn_all m (steps_before ss) v)
 taken_before m [] v = refl

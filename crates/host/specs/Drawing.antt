@@ -11,15 +11,15 @@ use Rattle.edit.specs.Edits.{of_letter, edited}
 use Rattle.edit.specs.Writing.{typed, typed_run}
 use Rattle.transmission.specs.declared.kind.Kind.TheVariants.{Open, Display}
 use Rattle.host.specs.declared.effect.Effect.{Effect}
-use Rattle.host.specs.declared.effect.Effect.TheVariants.{Nothing, Lock, Light, Transmit}
+use Rattle.host.specs.declared.effect.Effect.TheVariants.{Lock, Light, Transmit}
 
 -- DC1 and ESC DC1 are transmissions, DC4 and ESC DC4 lock codes, BEL puts the light on
-abbrev pub effect : Step → Effect
-effect (run cs p) = Nothing
-effect (address y x) = Nothing
-effect (escape c) = cond (c == DC1) (Transmit Display) (cond (c == DC4) Lock Nothing)
-effect (control c) = cond (c == DC1) (Transmit Open) (cond (c == DC4) Lock (cond (c == BEL) Light Nothing))
-effect broken = Nothing
+abbrev pub effect : Step → Option Effect
+effect (run cs p) = None
+effect (address y x) = None
+effect (escape c) = cond (c == DC1) (Some (Transmit Display)) (cond (c == DC4) (Some Lock) None)
+effect (control c) = cond (c == DC1) (Some (Transmit Open)) (cond (c == DC4) (Some Lock) (cond (c == BEL) (Some Light) None))
+effect broken = None
 
 -- SO protects what is written after it, SI opens
 abbrev pub protects : Bool → Step → Bool

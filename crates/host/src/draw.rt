@@ -15,16 +15,16 @@ use text::step::Step;
 use transmission::kind::Kind;
 
 // What a step does beside drawing.
-pub(crate) fn effect_of(step: Step) -> Effect
+pub(crate) fn effect_of(step: Step) -> Option<Effect>
     ensures { result ≡ effect (shown step.entry) }
 {
     match step {
-        Step::Escape('\x11') => Effect::Transmit(Kind::Display),
-        Step::Escape('\x14') => Effect::Lock,
-        Step::Control(DC1) => Effect::Transmit(Kind::Open),
-        Step::Control(DC4) => Effect::Lock,
-        Step::Control(BEL) => Effect::Light,
-        _ => Effect::Nothing,
+        Step::Escape('\x11') => Some(Effect::Transmit(Kind::Display)),
+        Step::Escape('\x14') => Some(Effect::Lock),
+        Step::Control(DC1) => Some(Effect::Transmit(Kind::Open)),
+        Step::Control(DC4) => Some(Effect::Lock),
+        Step::Control(BEL) => Some(Effect::Light),
+        _ => None,
     }
 }
 

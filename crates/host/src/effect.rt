@@ -1,9 +1,8 @@
-// What a step of a host text does beside drawing.
+// What a step of a host text may do beside drawing.
 use transmission::kind::Kind;
 
-#[derive(Clone, Copy)]
+#[derive(Clone, Copy, PartialEq, Eq, Debug)]
 pub enum Effect {
-    Nothing,
     // a lock code: the keyboard is locked after the text
     Lock,
     // the message light goes on

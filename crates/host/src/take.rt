@@ -1,12 +1,12 @@
 // A terminal's state: new, and as transmissions and other effects change it.
-ghost use Rattle.std.specs.Prelude.{◌≡◌, ◌<◌, true, false, not, ◌&&◌, ◌||◌, Some, None};
-ghost use Rattle.edit.specs.View.{size, at};
+ghost use Rattle.std.specs.Prelude.{◌≡◌, true, false, ◌||◌, Some, None, is_some, option_copied};
+ghost use Rattle.std.specs.Option.{option_or};
+ghost use Rattle.edit.specs.View.{at};
 ghost use Rattle.transmission.specs.Text.{taken};
-ghost use Rattle.host.specs.Carrying.{is_lock, is_light, took, or_else, is_some, held_of};
+ghost use Rattle.host.specs.Carrying.{is_lock, is_light, took, held_of};
 
 use crate::effect::Effect;
 use crate::state::State;
-use edit::cell::on_screen;
 use screen::interface::Screen;
 use transmission::held::HeldText;
 use transmission::kind::Kind;
@@ -23,9 +23,34 @@ impl State {
             cursor: 0,
             locked: false,
             light: false,
-            holds: false,
-            text: HeldText::new(),
+            held: None,
         }
+    }
+
+    // The text of the transmission that is held.
+    pub fn held(&self) -> Option<&[u8]>
+        ensures { option_copied result ≡ held_of self.now }
+    {
+        self.held.as_ref().map(|text| text.text())
+    }
+
+    // Whether the text of a transmission is held.
+    pub fn is_held(&self) -> bool
+        ensures { result ≡ is_some (held_of self.now) }
+    {
+        self.held.is_some()
+    }
+
+    // Takes up a transmission, in the place of what is held.
+    pub fn take_up<S: Screen>(&mut self, screen: &S, kind: Kind)
+        ensures cursor { self.new.cursor ≡ self.old.cursor }
+        ensures locked { self.new.locked ≡ self.old.locked }
+        ensures light { self.new.light ≡ self.old.light }
+        ensures held { held_of self.new ≡ Some (taken kind (at (S.grid screen.now) self.old.cursor)) }
+    {
+        let mut text = HeldText::new();
+        text.take_up(screen, self.cursor, kind);
+        self.held = Some(text);
     }
 
     // Takes up a transmission, unless one is held.
@@ -33,11 +58,10 @@ impl State {
         ensures cursor { self.new.cursor ≡ self.old.cursor }
         ensures locked { self.new.locked ≡ self.old.locked }
         ensures light { self.new.light ≡ self.old.light }
-        ensures held { held_of self.new ≡ or_else (held_of self.old) (Some (taken kind (at (S.grid screen.now) self.old.cursor))) }
+        ensures held { held_of self.new ≡ option_or (held_of self.old) (Some (taken kind (at (S.grid screen.now) self.old.cursor))) }
     {
-        if !self.holds {
-            self.text.take_up(screen, self.cursor, kind);
-            self.holds = true;
+        if !self.is_held() {
+            self.take_up(screen, kind);
         }
     }
 
@@ -46,56 +70,24 @@ impl State {
         ensures cursor { self.new.cursor ≡ self.old.cursor }
         ensures locked { self.new.locked ≡ true }
         ensures light { self.new.light ≡ self.old.light }
-        ensures held { held_of self.new ≡ or_else (held_of self.old) (Some (taken kind (at (S.grid screen.now) self.old.cursor))) }
+        ensures held { held_of self.new ≡ option_or (held_of self.old) (Some (taken kind (at (S.grid screen.now) self.old.cursor))) }
     {
         self.hold(screen, kind);
         self.locked = true;
     }
 
     // What a step does beside drawing, with the cells and the cursor as the steps before it leave them.
-    pub(crate) fn note<S: Screen>(&mut self, screen: &S, effect: Effect)
+    pub(crate) fn note<S: Screen>(&mut self, screen: &S, effect: Option<Effect>)
         ensures cursor { self.new.cursor ≡ self.old.cursor }
         ensures locked { self.new.locked ≡ (self.old.locked || is_lock effect) }
         ensures light { self.new.light ≡ (self.old.light || is_light effect) }
-        ensures held { held_of self.new ≡ or_else (held_of self.old) (took effect (at (S.grid screen.now) self.old.cursor)) }
+        ensures held { held_of self.new ≡ option_or (held_of self.old) (took effect (at (S.grid screen.now) self.old.cursor)) }
     {
         match effect {
-            Effect::Nothing => {}
-            Effect::Lock => self.locked = true,
-            Effect::Light => self.light = true,
-            Effect::Transmit(kind) => self.hold(screen, kind),
+            None => {}
+            Some(Effect::Lock) => self.locked = true,
+            Some(Effect::Light) => self.light = true,
+            Some(Effect::Transmit(kind)) => self.hold(screen, kind),
         }
-    }
-
-    // Whether the text of a transmission is held.
-    pub fn is_held(&self) -> bool
-        ensures { result ≡ is_some (held_of self.now) }
-    {
-        self.holds
-    }
-
-    // At a text's beginning: the cursor on the screen, and no lock code yet.
-    pub(crate) fn open<S: Screen>(&mut self, screen: &S)
-        ensures cursor { at (S.grid screen.now) self.new.cursor ≡ at (S.grid screen.now) self.old.cursor }
-        ensures on { self.new.cursor < size (S.grid screen.now) }
-        ensures locked { self.new.locked ≡ false }
-        ensures light { self.new.light ≡ self.old.light }
-        ensures held { held_of self.new ≡ held_of self.old }
-    {
-        self.cursor = on_screen(screen, self.cursor);
-        self.locked = false;
-    }
-
-    // At a text's end: a held text locks too. Answers whether it is new.
-    pub(crate) fn close(&mut self, held: bool) -> bool
-        ensures cursor { self.new.cursor ≡ self.old.cursor }
-        ensures locked { self.new.locked ≡ (self.old.locked || is_some (held_of self.new)) }
-        ensures light { self.new.light ≡ self.old.light }
-        ensures held { held_of self.new ≡ held_of self.old }
-        ensures answer { result ≡ (is_some (held_of self.new) && not held) }
-    {
-        let holds = self.is_held();
-        self.locked = self.locked || holds;
-        holds && !held
     }
 }

@@ -1,5 +1,5 @@
 // Which cells a transmission sends.
-#[derive(Clone, Copy)]
+#[derive(Clone, Copy, PartialEq, Eq, Debug)]
 pub enum Kind {
     // the open cells: TRANSMIT and DC1
     Open,
