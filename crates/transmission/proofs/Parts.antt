@@ -1,30 +1,33 @@
 -- A text taken up, part by part.
-use Rattle.std.proofs.Common.{◌≡◌, ℕ, zero, suc, ◌+◌, ◌-◌, ◌*◌, ◌/◌, ◌%◌, ◌<◌, ◌≤◌, Bool, true, false, cond, eqb, List, [], ◌∷◌, ◌++◌, length, get_or, take, drop, fold, filter, sym, refl, ap, ◌∙◌, ⊎_elim, div-lt_iff_lt-mul, add-mul, one-mul, div-add-mod', div-mul-le_self, mul-div_cancel, arith}
+use Rattle.std.proofs.Common.{◌≡◌, ℕ, zero, suc, ◌+◌, ◌-◌, ◌*◌, ◌/◌, ◌%◌, ◌<◌, ◌≤◌, Bool, true, false, cond, eqb, List, [], ◌∷◌, ◌++◌, length, get_or, take, drop, fold, filter, sym, refl, ap, ◌∙◌, subst, ⊎_elim, add-mul, one-mul, div-add-mod', mul-div_cancel, arith}
 use Rattle.std.specs.List.{prefix_len, suffix_len, between}
 use Rattle.std.proofs.lemmas.Bool.{cases_lt, cond-true, cond-false, eq-eqb, ne_eqb}
-use Rattle.std.proofs.lemmas.List.{take-append-drop, take-take, drop-take, drop-drop, take_at, append_assoc, append-nil, length-append, reverse-append}
+use Rattle.std.proofs.lemmas.List.{take-append-drop, take-take, drop-take, drop-drop, take_at, append-nil, length-append, reverse-append}
 use Rattle.std.proofs.lemmas.List.Edits.{between_more}
 use Rattle.std.proofs.lemmas.List.Elements.{filter-append}
 use Rattle.std.proofs.lemmas.Nat.{div_below, mod_below}
 use Rattle.screen.specs.Cells.{Cell, blank}
 use Rattle.edit.proofs.Runs.{part_more}
-use Rattle.codes.specs.Ascii.{ESC, CR, RS}
+use Rattle.codes.specs.Ascii.{RS}
 use Rattle.screen.specs.Grid.{Grid, Sound}
 use Rattle.edit.specs.View.{View, size}
 use Rattle.transmission.specs.declared.kind.Kind.{Kind}
-use Rattle.transmission.specs.Text.{start_at, is_sent, is_open_space, Sent, is_escaped, spelled, says, sends, trimmed, returned, row_sends, rows_sent, stretch}
+use Rattle.transmission.specs.Text.{start_at, is_sent, is_open_space, Sent, says, sends, trimmed, row_sends, rows_sent, stretch}
 use Rattle.transmission.proofs.Trimming.{Trimming}
 
 -- one cell of a part
-pub sends_yes : (kind : Kind) (cs : List Cell) (k to : ℕ) (o : Sent) → k < to → k < length cs → is_sent kind (get_or cs k blank) ≡ true
-    → sends kind (between k to cs) o ≡ sends kind (between (k + 1) to cs) (says kind o (get_or cs k blank))
-sends_yes kind cs k to o h l e =
-    ap (λ x. sends kind x o) (part_more cs k to h l) ∙ ap (fold (says kind) o) (cond-true (is_sent kind (get_or cs k blank)) _ _ e)
+pub sends_next : (kind : Kind) (cs : List Cell) (k to : ℕ) (o : Sent) → k < to → k < length cs → sends kind (between k to cs) o ≡ sends kind (between (k + 1) to cs) (sends kind (get_or cs k blank ∷ []) o)
+sends_next kind cs k to o h l = ap (λ x. sends kind x o) (part_more cs k to h l) ∙ one (is_sent kind c)
+  where
+    c : Cell
+    c = get_or cs k blank
 
-pub sends_no : (kind : Kind) (cs : List Cell) (k to : ℕ) (o : Sent) → k < to → k < length cs → is_sent kind (get_or cs k blank) ≡ false
-    → sends kind (between k to cs) o ≡ sends kind (between (k + 1) to cs) o
-sends_no kind cs k to o h l e =
-    ap (λ x. sends kind x o) (part_more cs k to h l) ∙ ap (fold (says kind) o) (cond-false (is_sent kind (get_or cs k blank)) _ _ e)
+    ys : List Cell
+    ys = filter (is_sent kind) (between (k + 1) to cs)
+
+    one : (b : Bool) → fold (says kind) o (cond b (c ∷ ys) ys) ≡ fold (says kind) (fold (says kind) o (cond b (c ∷ []) [])) ys
+    one true = refl
+    one false = refl
 
 -- the end of a list
 ending_push : (p : Cell → Bool) (xs : List Cell) (c : Cell) → suffix_len p (xs ++ (c ∷ [])) ≡ cond (p c) (1 + suffix_len p xs) 0
@@ -83,9 +86,8 @@ trimmed_whole kind cs from stop to left l t z =
     let m : length a ≡ length k - suffix_len is_open_space k = omega (arith, ap length whole, length-append a b, t.behind) in
     (n, sym (take_at a b (length k - suffix_len is_open_space k) m) ∙ ap (take (length k - suffix_len is_open_space k)) (sym whole))
 
-pub returned_some : (n : ℕ) (o : Sent) → 0 < n → returned n o ≡ record { characters = o.characters ++ (CR ∷ []); last = o.last }
-returned_some zero o h = absurd (omega arith)
-returned_some (suc n) o h = refl
+pub one_back : (kind : Kind) (cs : List Cell) (from p to left : ℕ) → from < p → Trimming kind cs from p to left → Trimming kind cs from (p - 1 + 1) to left
+one_back kind cs from p to left h t = let e : p ≡ p - 1 + 1 = omega arith in subst (λ (k : ℕ). Trimming kind cs from k to left) e t
 
 -- one place back in the search
 pub start_at_back : (cs : List Cell) (p : ℕ) → 0 < p → ((get_or cs p blank).code ≡ RS → ⊥) → start_at cs (p - 1) ≡ start_at cs p
@@ -96,70 +98,38 @@ pub start_at_here : (cs : List Cell) (p : ℕ) → (get_or cs p blank).code ≡ 
 start_at_here cs zero e = refl
 start_at_here cs (suc p) e = cond-true (eqb (get_or cs (suc p) blank).code RS) _ _ (eq-eqb _ RS e)
 
--- rows of the stretch
-pub next_row : (w s : ℕ) → 0 < w → (s / w + 1) * w / w ≡ s / w + 1
-next_row w s h = mul-div_cancel (s / w + 1) h
-
-pub row_after : (w s : ℕ) → 0 < w → s < (s / w + 1) * w
-row_after w s h =
+-- rows of the stretch: a place of the row before lies before this row's end, and that at or before the cursor
+pub row_after : (w s r : ℕ) → 0 < w → s / w + 1 ≡ r → s < r * w
+row_after w s r h e =
     let q : (s / w + 1) * w ≡ s / w * w + w = add-mul (s / w) 1 w ∙ ap (λ x. s / w * w + x) (one-mul w) in
     let d : s / w * w + s % w ≡ s = div-add-mod' s w in
     let b = mod_below s w h in
-    omega arith
+    omega (arith, ap (λ x. x * w) e)
 
-rows_up : (w p q : ℕ) → 0 < w → q * w ≤ p → q ≤ p / w
-rows_up w p q h l = ⊎_elim (λ (b : p / w < q). absurd (let m : p < q * w = (div-lt_iff_lt-mul h).0 b in omega arith)) (λ b. b) (cases_lt (p / w) q)
+pub row_before : (w p r : ℕ) → 0 < w → r ≤ p / w → r * w ≤ p
+row_before w p r h l = ⊎_elim (λ (b : p < r * w). absurd (let m = div_below p w r h b in omega arith)) (λ b. b) (cases_lt p (r * w))
 
-pub stretch_more : (kind : Kind) (w : ℕ) (cs : List Cell) (p s : ℕ) (o : Sent) → 0 < w → (s / w + 1) * w ≤ p
-    → rows_sent kind w cs p (p / w - s / w) s o ≡ rows_sent kind w cs p (p / w - (s / w + 1) * w / w) ((s / w + 1) * w) (row_sends kind (between s ((s / w + 1) * w) cs) o)
-stretch_more kind w cs p s o h l =
-    let e = next_row w s h in
-    let up : s / w + 1 ≤ p / w = rows_up w p (s / w + 1) h l in
-    let n : p / w - s / w ≡ suc (p / w - (s / w + 1) * w / w) = omega arith in
-    ap (λ k. rows_sent kind w cs p k s o) n
+pub row_next : (w r : ℕ) → 0 < w → r * w / w ≡ r
+row_next w r h = mul-div_cancel r h
 
-pub stretch_last : (kind : Kind) (w : ℕ) (cs : List Cell) (p s : ℕ) (o : Sent) → 0 < w → p < (s / w + 1) * w
-    → rows_sent kind w cs p (p / w - s / w) s o ≡ sends kind (between s (p + 1) cs) o
-stretch_last kind w cs p s o h l =
-    let d = div_below p w (s / w + 1) h l in
-    let n : p / w - s / w ≡ 0 = omega arith in
-    ap (λ k. rows_sent kind w cs p k s o) n
-
--- the same, where the code has the number of columns as w
-pub stretch_row : (kind : Kind) (v : View) (w s : ℕ) (o : Sent) → w ≡ v.grid.columns → 0 < w → (s / w + 1) * w ≤ v.cursor
-    → stretch kind v s o ≡ stretch kind v ((s / w + 1) * w) (row_sends kind (between s ((s / w + 1) * w) v.grid.cells) o)
-stretch_row kind v w s o e h l =
+pub stretch_row : (kind : Kind) (v : View) (w s r : ℕ) (o : Sent) → w ≡ v.grid.columns → 0 < w → s / w + 1 ≡ r → r ≤ v.cursor / w
+    → stretch kind v s o ≡ stretch kind v (r * w) (row_sends kind (between s (r * w) v.grid.cells) o)
+stretch_row kind v w s r o e h f l =
     let cs = v.grid.cells in
     let p = v.cursor in
-    let t : ℕ = (s / w + 1) * w in
-    let q = row_sends kind (between s t cs) o in
-    ap (λ x. rows_sent kind x cs p (p / x - s / x) s o) (sym e) ∙ stretch_more kind w cs p s o h l ∙ ap (λ x. rows_sent kind x cs p (p / x - t / x) t q) e
+    let t : ℕ = r * w in
+    let n : p / w - s / w ≡ suc (p / w - t / w) = omega (arith, row_next w r h) in
+    ap (λ x. rows_sent kind x cs p (p / x - s / x) s o) (sym e)
+    ∙ ap (λ k. rows_sent kind w cs p k s o) n
+    ∙ ap (λ k. rows_sent kind w cs p (p / w - t / w) (k * w) (row_sends kind (between s (k * w) cs) o)) f
+    ∙ ap (λ x. rows_sent kind x cs p (p / x - t / x) t (row_sends kind (between s t cs) o)) e
 
-pub stretch_end : (kind : Kind) (v : View) (w s : ℕ) (o : Sent) → w ≡ v.grid.columns → 0 < w → v.cursor < (s / w + 1) * w
-    → stretch kind v s o ≡ sends kind (between s (v.cursor + 1) v.grid.cells) o
-stretch_end kind v w s o e h l =
-    let cs = v.grid.cells in
-    let p = v.cursor in
-    ap (λ x. rows_sent kind x cs p (p / x - s / x) s o) (sym e) ∙ stretch_last kind w cs p s o h l
+pub stretch_end : (kind : Kind) (v : View) (w s : ℕ) (o : Sent) → w ≡ v.grid.columns → v.cursor / w ≤ s / w → stretch kind v s o ≡ sends kind (between s (v.cursor + 1) v.grid.cells) o
+stretch_end kind v w s o e l =
+    let n : v.cursor / w - s / w ≡ 0 = omega arith in
+    ap (λ x. rows_sent kind x v.grid.cells v.cursor (v.cursor / x - s / x) s o) (sym e) ∙ ap (λ k. rows_sent kind w v.grid.cells v.cursor k s o) n
 
--- a cell spelled out
-pub spell_plain : (t s x : List ℕ) (kind : Kind) (c : ℕ) → is_escaped kind c ≡ false → x ≡ (t ++ s) ++ (c ∷ []) → x ≡ t ++ (s ++ spelled kind c)
-spell_plain t s x kind c n e = e ∙ append_assoc t s (c ∷ []) ∙ ap (λ y. t ++ (s ++ y)) (sym (cond-false (is_escaped kind c) _ _ n))
-
-pub spell_escaped : (t s x : List ℕ) (kind : Kind) (c : ℕ) → is_escaped kind c ≡ true → x ≡ ((t ++ s) ++ (ESC ∷ [])) ++ (c ∷ []) → x ≡ t ++ (s ++ spelled kind c)
-spell_escaped t s x kind c n e =
-    e
-    ∙ append_assoc (t ++ s) (ESC ∷ []) (c ∷ [])
-    ∙ append_assoc t s (ESC ∷ c ∷ [])
-    ∙ ap (λ y. t ++ (s ++ y)) (sym (cond-true (is_escaped kind c) _ _ n))
-
--- how large things are
-pub row_top : (w s : ℕ) → (s / w + 1) * w ≤ s + w
-row_top w s =
-    let q : (s / w + 1) * w ≡ s / w * w + w = add-mul (s / w) 1 w ∙ ap (λ x. s / w * w + x) (one-mul w) in
-    let d = div-mul-le_self s w in
-    omega arith
-
+-- how many rows there are
 pub row_small : (g : Grid) (w s : ℕ) → Sound g → w ≡ g.columns → s < size g → s / w < 24
 row_small g w s ok e l =
     let n : size g ≡ g.rows * w = ok.filled ∙ ap (λ x. g.rows * x) (sym e) in

@@ -6,6 +6,8 @@ ghost use Rattle.std.specs.Prelude.{◌≡◌, ◌≤◌, length};
 pub struct HeldText {
     pub(crate) characters: [u8; 5766],
     pub(crate) len: usize,
+    // whether the text ends protected: after an SO with no SI yet
+    pub(crate) protected: bool,
     ghost room: { length characters ≡ 5766 },
     ghost fits: { len ≤ 5766 },
 }

@@ -17,50 +17,12 @@ fn start_at<S: Screen>(screen: &S, cursor: usize) -> usize
     ensures place { result ≡ start_at (S.grid screen.now).cells cursor }
     ensures before { result ≤ cursor }
 {
-    let mut at = cursor;
-    while at > 0 && cell_at(screen, at).0 != RS {
-        at -= 1;
-    }
-    at
-}
-
-// The address of the first cell.
-fn put_address<S: Screen>(held: &mut HeldText, screen: &S, first: usize)
-    requires { first < size (S.grid screen.now) }
-    ensures sent { text_of held.new ≡ opening (S.grid screen.now).columns first }
-    ensures len { held.new.len ≡ 5 }
-{
-    let columns = screen.columns();
-    held.clear();
-    held.push(ESC);
-    held.push(VT);
-    held.push((first / columns) as u8 + SPACE);
-    held.push((first % columns) as u8 + SPACE);
-    held.push(SI);
-}
-
-// Sends cells; `was` and the answer are the protection of the last cell sent before and then.
-fn put_part<S: Screen>(
-    held: &mut HeldText,
-    screen: &S,
-    from: usize,
-    to: usize,
-    was: bool,
-    kind: Kind,
-) -> bool
-    requires { (from ≤ to) × ((to ≤ size (S.grid screen.now)) × (held.old.len + 3 * (to - from) ≤ 5766)) }
-    ensures sent { sent_of held.new result ≡ sends kind (between from to (S.grid screen.now).cells) (sent_of held.old was) }
-    ensures len { held.new.len ≤ held.old.len + 3 * (to - from) }
-{
-    let mut last = was;
-    for k in from..to {
-        let found = cell_at(screen, k);
-        if kind.sends(found) {
-            held.spell(last, found, kind);
-            last = found.1;
+    for place in (1..=cursor).rev() {
+        if cell_at(screen, place).0 == RS {
+            return place;
         }
     }
-    last
+    0
 }
 
 // Where a part ends without the open spaces at the end of what is sent of it, and how many of those there are.
@@ -71,74 +33,83 @@ fn trimmed_end<S: Screen>(screen: &S, from: usize, to: usize, kind: Kind) -> (us
     ensures low { from ≤ result.0 }
     ensures room { result.0 + result.1 ≤ to }
 {
-    let mut stop = to;
     let mut left = 0;
-    while stop > from {
-        let found = cell_at(screen, stop - 1);
+    for place in (from..to).rev() {
+        let found = cell_at(screen, place);
         if kind.sends(found) {
             if !is_open_space(found) {
-                return (stop, left);
+                return (place + 1, left);
             }
             left += 1;
         }
-        stop -= 1;
     }
-    (stop, left)
-}
-
-// Sends a row before the cursor's.
-fn put_row<S: Screen>(
-    held: &mut HeldText,
-    screen: &S,
-    from: usize,
-    to: usize,
-    was: bool,
-    kind: Kind,
-) -> bool
-    requires { (from ≤ to) × ((to ≤ size (S.grid screen.now)) × (held.old.len + 3 * (to - from) ≤ 5766)) }
-    ensures sent { sent_of held.new result ≡ row_sends kind (between from to (S.grid screen.now).cells) (sent_of held.old was) }
-    ensures len { held.new.len ≤ held.old.len + 3 * (to - from) }
-{
-    let (stop, left) = trimmed_end(screen, from, to, kind);
-    let last = put_part(held, screen, from, stop, was, kind);
-    if left > 0 {
-        held.push(CR);
-    }
-    last
-}
-
-// Sends the cells from the first through the cursor's, row by row.
-fn put_stretch<S: Screen>(
-    held: &mut HeldText,
-    screen: &S,
-    first: usize,
-    cursor: usize,
-    kind: Kind,
-) -> bool
-    requires { (first ≤ cursor) × ((cursor < size (S.grid screen.now)) × (held.old.len ≡ 5)) }
-    ensures sent { sent_of held.new result ≡ stretch kind (view (S.grid screen.now) cursor) first (sent_of held.old false) }
-    ensures len { held.new.len < 5766 }
-{
-    let columns = screen.columns();
-    let mut last = false;
-    let mut from = first;
-    while (from / columns + 1) * columns <= cursor {
-        let end = (from / columns + 1) * columns;
-        last = put_row(held, screen, from, end, last, kind);
-        from = end;
-    }
-    put_part(held, screen, from, cursor + 1, last, kind)
+    (from, left)
 }
 
 impl HeldText {
+    // The address of the first cell.
+    fn put_address<S: Screen>(&mut self, screen: &S, first: usize)
+        requires { first < size (S.grid screen.now) }
+        ensures sent { sent_of self.new ≡ record { characters = opening (S.grid screen.now).columns first; last = false } }
+        ensures len { self.new.len ≡ 5 }
+    {
+        let columns = screen.columns();
+        self.clear();
+        self.push(ESC);
+        self.push(VT);
+        self.push((first / columns) as u8 + SPACE);
+        self.push((first % columns) as u8 + SPACE);
+        self.push(SI);
+    }
+
+    // Sends the cells of a part.
+    #[tactic(auto, using(crate::proofs::Parts::sends_next))]
+    fn put_part<S: Screen>(&mut self, screen: &S, from: usize, to: usize, kind: Kind)
+        requires { (from ≤ to) × ((to ≤ size (S.grid screen.now)) × (self.old.len + 3 * (to - from) ≤ 5766)) }
+        ensures sent { sent_of self.new ≡ sends kind (between from to (S.grid screen.now).cells) (sent_of self.old) }
+        ensures len { self.new.len ≤ self.old.len + 3 * (to - from) }
+    {
+        for place in from..to {
+            self.put_cell(cell_at(screen, place), kind);
+        }
+    }
+
+    // Sends a row before the cursor's.
+    fn put_row<S: Screen>(&mut self, screen: &S, from: usize, to: usize, kind: Kind)
+        requires { (from ≤ to) × ((to ≤ size (S.grid screen.now)) × (self.old.len + 3 * (to - from) ≤ 5766)) }
+        ensures sent { sent_of self.new ≡ row_sends kind (between from to (S.grid screen.now).cells) (sent_of self.old) }
+        ensures len { self.new.len ≤ self.old.len + 3 * (to - from) }
+    {
+        let (stop, left) = trimmed_end(screen, from, to, kind);
+        self.put_part(screen, from, stop, kind);
+        if left > 0 {
+            self.push(CR);
+        }
+    }
+
+    // Sends the cells from the first through the cursor's, row by row.
+    fn put_stretch<S: Screen>(&mut self, screen: &S, first: usize, cursor: usize, kind: Kind)
+        requires { (first ≤ cursor) × ((cursor < size (S.grid screen.now)) × (self.old.len ≡ 5)) }
+        ensures sent { sent_of self.new ≡ stretch kind (view (S.grid screen.now) cursor) first (sent_of self.old) }
+        ensures len { self.new.len < 5766 }
+    {
+        let columns = screen.columns();
+        let mut from = first;
+        for row in first / columns + 1..cursor / columns + 1 {
+            self.put_row(screen, from, row * columns, kind);
+            from = row * columns;
+        }
+        self.put_part(screen, from, cursor + 1, kind);
+    }
+
     // Takes up the text of a transmission with the cursor at a place, in the place of what stood here.
     pub fn take_up<S: Screen>(&mut self, screen: &S, cursor: usize, kind: Kind)
         ensures { text_of self.new ≡ taken kind (at (S.grid screen.now) cursor) }
     {
         let place = on_screen(screen, cursor);
         let first = start_at(screen, place);
-        put_address(self, screen, first);
-        let last = put_stretch(self, screen, first, place, kind);
-        self.turn(last, false);
+        self.put_address(screen, first);
+        self.put_stretch(screen, first, place, kind);
+        self.turn(false);
     }
 }
