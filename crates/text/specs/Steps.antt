@@ -1,5 +1,5 @@
 -- Which steps a text has.
-use Rattle.std.specs.Prelude.{ℕ, zero, suc, ◌+◌, ◌-◌, min, cond, ◌&&◌, List, [], ◌∷◌, take, drop, ◌==◌, nat_le, slice_index}
+use Rattle.std.specs.Prelude.{ℕ, zero, suc, ◌+◌, ◌-◌, min, cond, ◌&&◌, List, [], ◌∷◌, take, ◌==◌, nat_le, slice_index}
 use Rattle.std.specs.List.{prefix_len}
 use Rattle.codes.specs.Ascii.{VT, SI, ESC, SPACE}
 use Rattle.codes.specs.Classes.{is_data}
@@ -35,10 +35,6 @@ first p c t =
     cond (is_data c) (record { step = run (take (prefix_len is_data (c ∷ t)) (c ∷ t)) p; taken = prefix_len is_data (c ∷ t) })
     (cond (c == ESC) (escape_at t)
     (record { step = control c; taken = 1 }))
-
--- the step at a place of a text that goes on there
-abbrev pub piece_at : ℕ → List ℕ → Piece
-piece_at p t = first p (slice_index t p) (drop (p + 1) t)
 
 -- the steps of what stands at the place p, where the first k characters belong to the step before
 abbrev pub steps : ℕ → ℕ → List ℕ → List Step
