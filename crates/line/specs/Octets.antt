@@ -28,9 +28,11 @@ unfolding ones
 good Even c h = agree_below_at (λ k. has_parity Even (with_parity Even k)) (λ _. true) 128 c refl h
 good Odd c h = agree_below_at (λ k. has_parity Odd (with_parity Odd k)) (λ _. true) 128 c refl h
 
+-- a character's octet gives it back
 pub gives_back : (p : Parity) (c : ℕ) → c < 128 → (has_parity p (with_parity p c) ≡ true) × (with_parity p c % 128 ≡ c)
 gives_back p c h = (good p c h, cond_both (has_parity p c) c (c + 128) (λ o. o % 128 ≡ c) (λ _. omega arith) (λ _. omega arith))
 
+-- a character's octet is an octet, and an octet's character a character
 pub in_range : (p : Parity) → ((c : ℕ) → c < 128 → with_parity p c < 256) × ((o : ℕ) → has_parity p o ≡ true → o % 128 < 128)
 in_range p = (λ c h. cond_both (has_parity p c) c (c + 128) (λ o. o < 256) (λ _. omega arith) (λ _. omega arith), λ o _. omega arith)
 
@@ -44,6 +46,7 @@ unfolding flips ones
 flips_all Even o h = agree_below_at (flips Even) (λ _. true) 256 o refl h
 flips_all Odd o h = agree_below_at (flips Odd) (λ _. true) 256 o refl h
 
+-- so a good octet with one bit changed is bad
 pub detects : (p : Parity) (o i : ℕ) → o < 256 → i < 8 → has_parity p o ≡ true → has_parity p (bit_xor o (2 ^ i)) ≡ false
 unfolding flips
 detects p o i h l g = agree_below_at (λ i. has_parity p (bit_xor o (2 ^ i))) (λ _. not (has_parity p o)) 8 i (flips_all p o h) l ∙ ap not g

@@ -48,15 +48,14 @@ impl<'a> Message<'a> {
     pub fn read(characters: &'a [u8]) -> Option<Message<'a>>
         ensures { message_of result ≡ message_in characters.now }
     {
-        let [rid, sid, did, tail @ ..] = characters else {
+        let &[rid, sid, did, ref tail @ ..] = characters else {
             return None;
         };
-        let form = Form::read(tail)?;
         Some(Message {
-            rid: *rid,
-            sid: *sid,
-            did: *did,
-            form,
+            rid,
+            sid,
+            did,
+            form: Form::read(tail)?,
         })
     }
 }
