@@ -3,6 +3,7 @@
 
 ghost use Rattle.std.specs.Prelude.{◌≡◌};
 ghost use Rattle.area.specs.Over.{fits};
+ghost use Rattle.area.specs.Room.{room};
 ghost use Rattle.area.specs.Numbers.{number_of};
 
 use numbered::Numbered;
@@ -27,4 +28,13 @@ pub fn has_room(area: &[u8], place: usize, count: usize) -> bool
     ensures { result ≡ fits area.now place count }
 {
     place <= area.len() && count <= area.len() - place
+}
+
+// Refuses an area where they have none.
+pub fn room(area: &[u8], place: usize, count: usize) -> Result<(), Refusal>
+    ensures { result ≡ room area.now place count }
+{
+    has_room(area, place, count)
+        .then_some(())
+        .ok_or(Refusal::ShortArea)
 }

@@ -1,2 +1,1 @@
-mod Sums
 pub mod Sending

@@ -25,6 +25,10 @@ pub record Left (A E : Type 0) : Type 0 where
   pub area : List ℕ
   pub answer : Result A E
 
+-- the reply, where so many octets more have room
+abbrev pub fitting : Begun → ℕ → List ℕ → Result Begun Refused
+fitting b count area = cond (fits area b.place count) (Ok b) (Err (refused b))
+
 -- where there is room a call writes and is done, and else it leaves the area as it was
 abbrev pub left : {A E : Type 0} → Bool → List ℕ → List ℕ → A → E → Left A E
 left room before after done full = cond room (record { area = after; answer = Ok done }) (record { area = before; answer = Err full })

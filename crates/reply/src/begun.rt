@@ -1,13 +1,11 @@
 // A reply under way. Begun and closed replies are plain numbers that are moved on: once the check has closed a reply,
 // it takes no character, and it cannot be closed again.
-ghost use Rattle.std.specs.Prelude.{◌≡◌, ◌+◌, ◌≤◌, [], ◌∷◌, length, Ok};
-ghost use Rattle.area.specs.Over.{over, written_at};
-ghost use Rattle.reply.specs.Octets.{octets, so_far};
-ghost use Rattle.reply.specs.Steps.{begun, closed, longer, begins, puts, closes};
-ghost use Rattle.reply.specs.Progress.{Holds, Begins, Extends, Ends};
+ghost use Rattle.std.specs.Prelude.{◌≡◌, [], ◌∷◌};
+ghost use Rattle.reply.specs.Steps.{fitting, begins, puts, closes};
+ghost use Rattle.reply.specs.Progress.{Begins, Extends, Ends};
 
-use crate::octets::{send, write_lead};
-use area::{Refusal, has_room};
+use crate::octets::{begin, send};
+use area::{Refusal, room};
 use codes::SOH;
 use line::Line;
 use receiver::check::block_check;
@@ -48,10 +46,11 @@ impl Begun {
         ensures answer { result ≡ (begins L.Line.kind area.old).answer }
         ensures begins { Begins L.Line.kind area.old result area.new }
     {
-        if !has_room(area, 0, L::lead_length() + 1) {
-            return Err(Refusal::ShortArea);
-        }
-        Ok(Begun::open(line, area, &[SOH]))
+        room(area, 0, L::lead_length() + 1)?;
+        Ok(Begun {
+            place: begin(line, area, &[SOH]),
+            sum: 0,
+        })
     }
 
     // One character more.
@@ -74,13 +73,11 @@ impl Begun {
         ensures answer { result ≡ (puts L.Line.kind self characters.now area.old).answer }
         ensures extends { Extends L.Line.kind self area.old characters.now result area.new }
     {
-        if !has_room(area, self.place, characters.len()) {
-            return Err(Refused {
-                reply: self,
-                refusal: Refusal::ShortArea,
-            });
-        }
-        Ok(self.write(line, area, characters))
+        let Begun { place, sum } = self.fitting(area, characters.len())?;
+        Ok(Begun {
+            place: send(line, area, place, characters),
+            sum: sum ^ block_check(characters),
+        })
     }
 
     // The check closes the reply.
@@ -89,50 +86,22 @@ impl Begun {
         ensures answer { result ≡ (closes L.Line.kind self area.old).answer }
         ensures ends { Ends L.Line.kind self area.old result area.new }
     {
-        if !has_room(area, self.place, 1) {
-            return Err(Refused {
+        let Begun { place, sum } = self.fitting(area, 1)?;
+        Ok(Closed {
+            length: send(line, area, place, &[sum]),
+        })
+    }
+
+    // The reply, where so many octets more have room.
+    fn fitting(self, area: &[u8], count: usize) -> Result<Begun, Refused>
+        ensures { result ≡ fitting self count area.now }
+    {
+        match room(area, self.place, count) {
+            Ok(()) => Ok(self),
+            Err(refusal) => Err(Refused {
                 reply: self,
-                refusal: Refusal::ShortArea,
-            });
+                refusal,
+            }),
         }
-        Ok(self.seal(line, area))
-    }
-
-    // The lead, and the characters that come before those of the check.
-    pub(crate) fn open<L: Line>(line: &L, area: &mut [u8], first: &[u8]) -> Begun
-        requires { L.Line.kind.lead + length first.now ≤ length area.old }
-        ensures area { area.new ≡ over (so_far L.Line.kind first.now []) area.old }
-        ensures reply { result ≡ begun (L.Line.kind.lead + length first.now) 0 }
-        ensures holds { Holds L.Line.kind area.old first.now [] result area.new }
-    {
-        write_lead(line, area);
-        let place = send(line, area, L::lead_length(), first);
-        Begun { place, sum: 0 }
-    }
-
-    // Characters that have room.
-    pub(crate) fn write<L: Line>(self, line: &L, area: &mut [u8], characters: &[u8]) -> Begun
-        requires { self.place + length characters.now ≤ length area.old }
-        ensures area { area.new ≡ written_at area.old self.place (octets L.Line.kind characters.now) }
-        ensures reply { result ≡ longer self characters.now }
-        ensures extends { Extends L.Line.kind self area.old characters.now (Ok result) area.new }
-    {
-        let Begun { place, sum } = self;
-        Begun {
-            place: send(line, area, place, characters),
-            sum: sum ^ block_check(characters),
-        }
-    }
-
-    // The check, which has room.
-    pub(crate) fn seal<L: Line>(self, line: &L, area: &mut [u8]) -> Closed
-        requires { self.place + 1 ≤ length area.old }
-        ensures area { area.new ≡ written_at area.old self.place (octets L.Line.kind (self.sum ∷ [])) }
-        ensures reply { result ≡ closed (self.place + 1) }
-        ensures ends { Ends L.Line.kind self area.old (Ok result) area.new }
-    {
-        let Begun { place, sum } = self;
-        area[place] = line.encode(sum);
-        Closed { length: place + 1 }
     }
 }

@@ -1,19 +1,20 @@
 // Octets on a line: the lead, which brings the other end of the line into step, and those of characters.
-ghost use Rattle.std.specs.Prelude.{◌≡◌, ◌+◌, ◌≤◌, length};
+ghost use Rattle.std.specs.Prelude.{◌≡◌, ◌+◌, ◌≤◌, [], length};
 ghost use Rattle.area.specs.Over.{over, written_at};
-ghost use Rattle.reply.specs.Octets.{lead, octets};
+ghost use Rattle.reply.specs.Octets.{octets, so_far};
 
 use codes::SYN;
 use line::Line;
 
-// Writes the lead into an area that has room for it.
-pub(crate) fn write_lead<L: Line>(line: &L, area: &mut [u8])
-    requires { L.Line.kind.lead ≤ length area.old }
-    ensures { area.new ≡ over (lead L.Line.kind) area.old }
+// Writes the lead and the octets of the first characters, where they have room, and answers the place behind them.
+pub(crate) fn begin<L: Line>(line: &L, area: &mut [u8], first: &[u8]) -> usize
+    requires { L.Line.kind.lead + length first.now ≤ length area.old }
+    ensures area { area.new ≡ over (so_far L.Line.kind first.now []) area.old }
+    ensures next { result ≡ length (so_far L.Line.kind first.now []) }
 {
-    for i in 0..L::lead_length() {
-        area[i] = line.encode(SYN);
-    }
+    let lead = L::lead_length();
+    area[..lead].fill(line.encode(SYN));
+    send(line, area, lead, first)
 }
 
 // Writes the characters' octets from a place on, where they have room, and answers the place behind them.
@@ -22,8 +23,18 @@ pub(crate) fn send<L: Line>(line: &L, area: &mut [u8], place: usize, characters:
     ensures area { area.new ≡ written_at area.old place (octets L.Line.kind characters.now) }
     ensures next { result ≡ place + length characters.now }
 {
-    for (i, character) in characters.iter().enumerate() {
-        area[place + i] = line.encode(*character);
+    let end = place + characters.len();
+    encode(line, &mut area[place..end], characters);
+    end
+}
+
+// Writes the characters' octets over as many.
+fn encode<L: Line>(line: &L, part: &mut [u8], characters: &[u8])
+    requires { length part.old ≡ length characters.now }
+    ensures { part.new ≡ octets L.Line.kind characters.now }
+{
+    part.copy_from_slice(characters);
+    for octet in part.iter_mut() {
+        *octet = line.encode(*octet);
     }
-    place + characters.len()
 }
