@@ -19,18 +19,38 @@ struct Checked<'a> {
     cells: Reader<'a>,
 }
 
-// Walks through all of the octets.
-fn check<'a>(octets: &'a [u8]) -> Result<Checked<'a>, Refusal>
-    ensures { Finds octets.now result }
-{
-    let mut reader = Reader::new(octets);
-    let header = reader.header()?;
-    let cells = reader;
-    reader.skip_cells(header.rows * header.columns)?;
-    if !reader.is_at_end() {
-        return Err(Refusal::LeftOver);
+impl<'a> Checked<'a> {
+    // Walks through all of the octets.
+    fn walk(octets: &'a [u8]) -> Result<Checked<'a>, Refusal>
+        ensures { Finds octets.now result }
+    {
+        let mut reader = Reader::new(octets);
+        let header = reader.header()?;
+        let cells = reader;
+        reader.skip_cells(header.rows * header.columns)?;
+        if !reader.is_at_end() {
+            return Err(Refusal::LeftOver);
+        }
+        Ok(Checked { header, cells })
     }
-    Ok(Checked { header, cells })
+
+    // Whether the screen has its size.
+    fn fits<S: Screen>(&self, screen: &S) -> bool
+        ensures { result ≡ (self.now.header.rows == (S.grid screen.now).rows) && (self.now.header.columns == (S.grid screen.now).columns) }
+    {
+        self.header.rows == screen.rows() && self.header.columns == screen.columns()
+    }
+
+    // Writes its cells to a screen of its size, and answers the cursor place.
+    fn show<S: Screen>(self, screen: &mut S) -> usize
+        requires { (self.header.rows == (S.grid screen.old).rows) && (self.header.columns == (S.grid screen.old).columns) ≡ true }
+        ensures rest { S.rest screen.new ≡ S.rest screen.old }
+        ensures shown { (os : List ℕ) → Found os self.entry → Shown os (S.grid screen.old) result (S.grid screen.new) }
+    {
+        let count = screen.rows() * screen.columns();
+        draw(self.cells, count, screen);
+        self.header.cursor
+    }
 }
 
 // Writes the next cell from a reader to a place of the screen.
@@ -53,24 +73,6 @@ fn draw<S: Screen>(mut cells: Reader, count: usize, screen: &mut S)
     }
 }
 
-// Whether the screen has this size.
-fn has_size<S: Screen>(screen: &S, rows: usize, columns: usize) -> bool
-    ensures { result ≡ (rows == (S.grid screen.now).rows) && (columns == (S.grid screen.now).columns) }
-{
-    rows == screen.rows() && columns == screen.columns()
-}
-
-// Writes the cells of a page to a screen of its size, and answers the cursor place.
-fn show<S: Screen>(page: Checked, screen: &mut S) -> usize
-    requires { (page.header.rows == (S.grid screen.old).rows) && (page.header.columns == (S.grid screen.old).columns) ≡ true }
-    ensures rest { S.rest screen.new ≡ S.rest screen.old }
-    ensures shown { (os : List ℕ) → Found os page.entry → Shown os (S.grid screen.old) result (S.grid screen.new) }
-{
-    let count = screen.rows() * screen.columns();
-    draw(page.cells, count, screen);
-    page.header.cursor
-}
-
 // Reads a page onto a screen of its size, and answers the cursor place. A refusal changes no cell.
 pub fn read_page<S: Screen>(octets: &[u8], screen: &mut S) -> Result<usize, Refusal>
     ensures rest { S.rest screen.new ≡ S.rest screen.old }
@@ -78,9 +80,9 @@ pub fn read_page<S: Screen>(octets: &[u8], screen: &mut S) -> Result<usize, Refu
     ensures answer { result ≡ (reads (S.grid screen.old) octets.now).answer }
     ensures written_back { IfOk result (λ cursor. octets_at (S.grid screen.new) cursor ≡ octets.now) }
 {
-    let page = check(octets)?;
-    if !has_size(screen, page.header.rows, page.header.columns) {
+    let page = Checked::walk(octets)?;
+    if !page.fits(screen) {
         return Err(Refusal::WrongSize);
     }
-    Ok(show(page, screen))
+    Ok(page.show(screen))
 }

@@ -1,20 +1,16 @@
 // A reader walks a stored page from its first octet.
-ghost use Rattle.std.specs.Prelude.{◌≡◌, ◌≤◌, [], ◌∷◌, length, IfOk, Ok, Err, MatchResult, ◌==◌};
-ghost use Rattle.screen.specs.Cells.{cell};
-ghost use Rattle.page.specs.declared.refusal.Refusal.TheVariants.{WrongNumber};
-ghost use Rattle.page.specs.Numbers.{number, read, first_number, first_where, told, left};
-ghost use Rattle.page.specs.Pages.{within, cell_in, cells_in, header_in};
-ghost use Rattle.page.specs.Walk.{rest_of, end_of, Reads};
+ghost use Rattle.std.specs.Prelude.{◌≤◌, length};
 
+use crate::cell::cell_of;
 use crate::number::first_number;
 use crate::refusal::Refusal;
-use screen::code::is_storable;
 
 // The octets, and the place of the next one.
 #[derive(Clone, Copy)]
 pub struct Reader<'a> {
     octets: &'a [u8],
     place: usize,
+    ghost within: { place ≤ length octets.now },
 }
 
 // What stands before the cells.
@@ -26,6 +22,13 @@ pub(crate) struct Header {
 }
 
 impl<'a> Reader<'a> {
+    ghost use Rattle.std.specs.Prelude.{◌≡◌, ◌≤◌, [], ◌∷◌, length, IfOk, Ok, Err, MatchResult, ◌==◌};
+    ghost use Rattle.screen.specs.Cells.{cell};
+    ghost use Rattle.page.specs.declared.refusal.Refusal.TheVariants.{WrongNumber};
+    ghost use Rattle.page.specs.Numbers.{number, read, first_number, first_where, told, left};
+    ghost use Rattle.page.specs.Pages.{within, cell_in, cells_in, header_in};
+    ghost use Rattle.page.specs.Walk.{rest_of, end_of, Reads};
+
     // A reader at the first octet.
     pub fn new(octets: &'a [u8]) -> Reader<'a>
         ensures { rest_of result ≡ octets.now }
@@ -40,9 +43,6 @@ impl<'a> Reader<'a> {
         ensures longer { number 300 ≡ 0xAC ∷ 0x02 ∷ [] }
         ensures padded { first_number (0x81 ∷ 0x00 ∷ []) ≡ Err WrongNumber }
     {
-        if self.place >= self.octets.len() {
-            return Err(Refusal::CutShort);
-        }
         let (number, count) = first_number(&self.octets[self.place..])?;
         self.place += count;
         Ok(number)
@@ -52,7 +52,7 @@ impl<'a> Reader<'a> {
     pub(crate) fn is_at_end(&self) -> bool
         ensures { result ≡ (length (rest_of self.now) == 0) }
     {
-        self.place >= self.octets.len()
+        self.place == self.octets.len()
     }
 
     // The next number, where it is one of these.
@@ -61,25 +61,17 @@ impl<'a> Reader<'a> {
         ensures range { IfOk result (λ n. (least ≤ n) × (n ≤ most)) }
     {
         let number = self.number()?;
-        if number < least || most < number {
-            return Err(Refusal::WrongNumber);
-        }
-        Ok(number)
+        (least..=most)
+            .contains(&number)
+            .then_some(number)
+            .ok_or(Refusal::WrongNumber)
     }
 
     // The next cell.
     pub(crate) fn cell(&mut self) -> Result<(u8, bool), Refusal>
         ensures { MatchResult result (λ p. cell_in (rest_of self.old) ≡ Ok (read (cell p.0 p.1) (rest_of self.new))) (λ e. cell_in (rest_of self.old) ≡ Err e) }
     {
-        let number = self.number()?;
-        if number >= 0x100 {
-            return Err(Refusal::WrongNumber);
-        }
-        let code = (number % 0x80) as u8;
-        if !is_storable(code) {
-            return Err(Refusal::WrongNumber);
-        }
-        Ok((code, number >= 0x80))
+        cell_of(self.number()?).ok_or(Refusal::WrongNumber)
     }
 
     // Past so many cells.
@@ -97,7 +89,7 @@ impl<'a> Reader<'a> {
         ensures reads { Reads (header_in (rest_of self.old)) result (rest_of self.new) }
         ensures size { IfOk result (λ h. (h.rows ≤ 24) × (h.columns ≤ 80)) }
     {
-        let _ = self.number_within(1, 1)?;
+        self.number_within(1, 1)?;
         let rows = self.number_within(2, 24)?;
         let columns = self.number_within(1, 80)?;
         let cursor = self.number_within(0, rows * columns - 1)?;

@@ -1,6 +1,8 @@
 ghost use Rattle.std.specs.Prelude.{◌≡◌};
+ghost use Rattle.page.specs.declared.refusal.Refusal.TheVariants.{ShortArea};
 ghost use Rattle.page.specs.Refusals.{number_of};
 
+use area::Refusal as AreaRefusal;
 use numbered::Numbered;
 
 // Why a page is refused, by number.
@@ -25,5 +27,13 @@ impl Numbered for Refusal {
 
     fn number(&self) -> u8 {
         *self as u8
+    }
+}
+
+impl From<AreaRefusal> for Refusal {
+    ghost from_gives = { λ _ r. r ≡ ShortArea };
+
+    fn from(_e: AreaRefusal) -> Refusal {
+        Refusal::ShortArea
     }
 }

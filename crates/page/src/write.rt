@@ -1,77 +1,91 @@
 // Writing a page: its length is found first, and then its numbers are written one after another.
-ghost use Rattle.std.specs.Prelude.{◌≡◌, ◌^◌, ◌<◌, ◌≤◌, true, length, take, IfOk, slice_index_or};
+ghost use Rattle.std.specs.Prelude.{◌≡◌, ◌^◌, ◌<◌, ◌≤◌, true, false, length, take, All, IfOk, MatchResult, slice_index_or};
 ghost use Rattle.area.specs.Over.{over};
-ghost use Rattle.screen.specs.Grid.{has_place};
 ghost use Rattle.screen.specs.Cells.{blank};
+ghost use Rattle.screen.specs.Grid.{has_place};
+ghost use Rattle.page.specs.declared.refusal.Refusal.TheVariants.{OffScreen};
 ghost use Rattle.page.specs.Pages.{cell_number, page_numbers};
 ghost use Rattle.page.specs.Calls.{page_at, octets_at, writes, ReadsBack};
 
+use crate::cell::cell_number;
 use crate::number::{number_length, put_number};
 use crate::refusal::Refusal;
-use area::has_room;
+use area::room;
 use codes::SPACE;
 use screen::interface::Screen;
 
-// The number at a place of the page: 1, rows, columns, cursor, and then those of the cells.
-fn page_number<S: Screen>(screen: &S, cursor: usize, place: usize) -> usize
-    requires { has_place (S.grid screen.now) cursor ≡ true }
-    ensures number { result ≡ slice_index_or (page_numbers (page_at (S.grid screen.now) cursor)) place 32 }
-    ensures small { result < 2 ^ 14 }
-{
-    match place {
-        0 => 1,
-        1 => screen.rows(),
-        2 => screen.columns(),
-        3 => cursor,
-        _ => cell_number(screen, place - 4),
-    }
+// A page to be written: a screen, and a cursor place on it.
+#[derive(Drop)]
+struct Page<'a, S: Screen> {
+    screen: &'a S,
+    cursor: usize,
+    ghost on: { has_place (S.Screen.grid screen.now) cursor ≡ true },
 }
 
-// A cell's number.
-fn cell_number<S: Screen>(screen: &S, place: usize) -> usize
-    ensures number { result ≡ cell_number (slice_index_or (S.grid screen.now).cells place blank) }
-    ensures small { result < 2 ^ 14 }
-{
-    match screen.read(place) {
-        Ok((code, mark)) => code as usize + if mark { 0x80 } else { 0 },
-        Err(_) => SPACE as usize,
+impl<'a, S: Screen> Page<'a, S> {
+    // The page of a screen, if the cursor place is on it.
+    fn new(screen: &'a S, cursor: usize) -> Result<Page<'a, S>, Refusal>
+        ensures { MatchResult result (λ p. (p.screen.now ≡ screen.now) × (p.cursor ≡ cursor)) (λ e. (e ≡ OffScreen) × (has_place (S.grid screen.now) cursor ≡ false)) }
+    {
+        if cursor >= screen.rows() * screen.columns() {
+            return Err(Refusal::OffScreen);
+        }
+        Ok(Page { screen, cursor })
     }
-}
 
-// Whether the place is on the screen.
-fn is_on<S: Screen>(screen: &S, place: usize) -> bool
-    ensures { result ≡ has_place (S.grid screen.now) place }
-{
-    place < screen.rows() * screen.columns()
-}
-
-// How many octets the page has.
-fn page_length<S: Screen>(screen: &S, cursor: usize) -> usize
-    requires { has_place (S.grid screen.now) cursor ≡ true }
-    ensures { result ≡ length (octets_at (S.grid screen.now) cursor) }
-{
-    let count = 4 + screen.rows() * screen.columns();
-    let mut length = 0;
-    for place in 0..count {
-        length += number_length(page_number(screen, cursor, place));
+    // The numbers before the cells: the kind of page, the size and the cursor place.
+    fn header(&self) -> [usize; 4]
+        ensures numbers { result ≡ take 4 (page_numbers (page_at (S.grid self.now.screen.now) self.now.cursor)) }
+        ensures small { All (λ n. n < 2 ^ 14) result }
+    {
+        [1, self.screen.rows(), self.screen.columns(), self.cursor]
     }
-    length
-}
 
-// Writes the page into an area that has room for it, and answers its length.
-fn put_page<S: Screen>(screen: &S, cursor: usize, area: &mut [u8]) -> usize
-    requires on { has_place (S.grid screen.now) cursor ≡ true }
-    requires room { length (octets_at (S.grid screen.now) cursor) ≤ length area.old }
-    ensures area { area.new ≡ over (octets_at (S.grid screen.now) cursor) area.old }
-    ensures length { result ≡ length (octets_at (S.grid screen.now) cursor) }
-    ensures back { ReadsBack (S.grid screen.now) cursor (take result area.new) }
-{
-    let count = 4 + screen.rows() * screen.columns();
-    let mut end = 0;
-    for place in 0..count {
-        end = put_number(area, end, page_number(screen, cursor, place));
+    // A cell's number.
+    fn cell(&self, place: usize) -> usize
+        ensures number { result ≡ cell_number (slice_index_or (S.grid self.now.screen.now).cells place blank) }
+        ensures small { result < 2 ^ 14 }
+    {
+        let (code, mark) = self.screen.read(place).unwrap_or((SPACE, false));
+        cell_number(code, mark)
     }
-    end
+
+    // How many cells it has.
+    fn count(&self) -> usize
+        ensures { result ≡ length (S.grid self.now.screen.now).cells }
+    {
+        self.screen.rows() * self.screen.columns()
+    }
+
+    // How many octets it has.
+    fn length(&self) -> usize
+        ensures { result ≡ length (octets_at (S.grid self.now.screen.now) self.now.cursor) }
+    {
+        let mut length = 0;
+        for n in self.header() {
+            length += number_length(n);
+        }
+        for place in 0..self.count() {
+            length += number_length(self.cell(place));
+        }
+        length
+    }
+
+    // Writes it into an area that has room for it, and answers its length.
+    fn write(&self, area: &mut [u8]) -> usize
+        requires { length (octets_at (S.grid self.now.screen.now) self.now.cursor) ≤ length area.old }
+        ensures area { area.new ≡ over (octets_at (S.grid self.now.screen.now) self.now.cursor) area.old }
+        ensures length { result ≡ length (octets_at (S.grid self.now.screen.now) self.now.cursor) }
+    {
+        let mut end = 0;
+        for n in self.header() {
+            end = put_number(area, end, n);
+        }
+        for place in 0..self.count() {
+            end = put_number(area, end, self.cell(place));
+        }
+        end
+    }
 }
 
 // Writes the page of a screen, with the cursor at this place, into the area, and answers its length.
@@ -80,11 +94,7 @@ pub fn write_page<S: Screen>(screen: &S, cursor: usize, area: &mut [u8]) -> Resu
     ensures answer { result ≡ (writes (S.grid screen.now) cursor area.old).answer }
     ensures read_back { IfOk result (λ n. ReadsBack (S.grid screen.now) cursor (take n area.new)) }
 {
-    if !is_on(screen, cursor) {
-        return Err(Refusal::OffScreen);
-    }
-    if !has_room(area, 0, page_length(screen, cursor)) {
-        return Err(Refusal::ShortArea);
-    }
-    Ok(put_page(screen, cursor, area))
+    let page = Page::new(screen, cursor)?;
+    room(area, 0, page.length())?;
+    Ok(page.write(area))
 }

@@ -6,7 +6,7 @@ use Rattle.page.specs.Checks.{page_of}
 use Rattle.page.specs.Walk.{rest_of}
 use Rattle.page.proofs.Inversions.{then_ok, ends_whole}
 use Rattle.page.proofs.Trips.{same_octets}
-use Rattle.page.proofs.read.check.Goals as goal
+use Rattle.page.proofs.read.Checked.walk.Goals as goal
 
 pub returns : goal.returns
 returns c =

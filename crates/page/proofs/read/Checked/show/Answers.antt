@@ -3,12 +3,12 @@ use Rattle.std.proofs.lemmas.Bool.{and_parts, eqb-true}
 use Rattle.page.specs.Pages.{cells_in}
 use Rattle.page.specs.Walk.{rest_of}
 use Rattle.page.proofs.Trips.{page_shown}
-use Rattle.page.proofs.read.show.Goals as goal
+use Rattle.page.proofs.read.Checked.show.Goals as goal
 
 pub returns : goal.returns
 returns g c =
     let G = g.S.Screen.grid c.args.screen.now in
-    let k = c.args.page in
+    let k = c.args.self in
     let size = and_parts (eqb k.header.rows G.rows) (eqb k.header.columns G.columns) c.requires in
     let rows = eqb-true _ _ size.0 in
     let columns = eqb-true _ _ size.1 in
