@@ -47,7 +47,7 @@ pub fn fill<S: Screen>(screen: &mut S, seed: u32) -> usize {
 
 // Makes every cell an open space.
 pub fn clear<S: Screen>(screen: &mut S) {
-    for row in 0..24 {
+    for row in 0..screen.rows() {
         let _ = screen.clear_row(row);
     }
 }

@@ -4,6 +4,7 @@ use page::read::read_page;
 use page::reader::Reader;
 use page::refusal::Refusal;
 use page::write::write_page;
+use std::alloc::Global;
 use std::test::Fail;
 use stores::map_store::MapStore;
 use stores::size::Size;
@@ -12,17 +13,17 @@ use window::extent::Extent;
 use window::window::Window;
 
 // Both trials on a store of this size.
-fn tried(rows: usize, columns: usize, seed: u32) -> Result<bool, Fail> {
+fn tried(alloc: Global, rows: usize, columns: usize, seed: u32) -> Result<bool, Fail> {
     let mut store = MapStore::new(Size::new(rows, columns)?);
-    Ok(there_and_back(&mut store, seed)? && every_damage(&mut store, seed)?)
+    Ok(there_and_back(&mut store, seed)? && every_damage(alloc, &mut store, seed)?)
 }
 
 #[test]
 fn every_size(rt: HostRuntime) -> Result<(), Fail> {
-    assert!(rt; tried(12, 80, 1)?);
-    assert!(rt; tried(16, 64, 2)?);
-    assert!(rt; tried(24, 64, 3)?);
-    assert!(rt; tried(24, 80, 4)?);
+    assert!(rt; tried(rt.alloc(), 12, 80, 1)?);
+    assert!(rt; tried(rt.alloc(), 16, 64, 2)?);
+    assert!(rt; tried(rt.alloc(), 24, 64, 3)?);
+    assert!(rt; tried(rt.alloc(), 24, 80, 4)?);
     Ok(())
 }
 
@@ -32,7 +33,7 @@ fn a_window(rt: HostRuntime) -> Result<(), Fail> {
     let extent = Extent::within(&store, 5, 7)?;
     let mut window = Window::new(&mut store, extent);
     assert!(rt; there_and_back(&mut window, 5)?);
-    assert!(rt; every_damage(&mut window, 6)?);
+    assert!(rt; every_damage(rt.alloc(), &mut window, 6)?);
     Ok(())
 }
 
@@ -90,6 +91,5 @@ fn numbers(rt: HostRuntime) {
 
 // The number that octets begin with.
 fn number(octets: &[u8]) -> Result<usize, Refusal> {
-    let mut reader = Reader::new(octets);
-    reader.number()
+    Reader::new(octets).number()
 }

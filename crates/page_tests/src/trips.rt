@@ -15,12 +15,10 @@ pub fn there_and_back<S: Screen>(screen: &mut S, seed: u32) -> Result<bool, Refu
     if length == 0 || length >= 4000 {
         return Ok(false);
     }
-    let found = read_page(&area[0..length], screen)?;
+    let found = read_page(&area[..length], screen)?;
     let mut again = [0xee; 4000];
     let second = write_page(screen, found, &mut again)?;
-    let short = matches!(
-        write_page(screen, found, &mut again[0..length - 1]),
-        Err(Refusal::ShortArea)
-    );
+    let shorter = &mut again[..length - 1];
+    let short = write_page(screen, found, shorter) == Err(Refusal::ShortArea);
     Ok(short && found == cursor && second == length && area == again && area[length] == 0xee)
 }

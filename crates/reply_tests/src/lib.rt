@@ -5,38 +5,15 @@ ghost use Rattle.std.specs.Prelude.{◌≡◌, IfOk};
 ghost use Rattle.reply.specs.Octets.{soh_first};
 ghost use Rattle.reply.specs.Steps.{closed};
 ghost use Rattle.reply.specs.Progress.{Shows};
-ghost use Rattle.reply_tests.specs.declared.Fault.TheVariants.{ShortArea};
 ghost use Rattle.reply_tests.specs.Characters.{characters};
 
 use area::Refusal;
 use codes::{ETX, STX};
 use line::Line;
-use reply::begun::{Begun, Closed, Refused};
+use reply::begun::Begun;
 
 #[cfg(test)]
 mod tests;
-
-// Why a station cannot reply, by number.
-#[derive(Clone, Copy, PartialEq, Eq, Debug)]
-pub enum Fault {
-    ShortArea = 6,
-}
-
-impl From<Refusal> for Fault {
-    ghost from_gives = { λ _ r. r ≡ ShortArea };
-
-    fn from(_e: Refusal) -> Fault {
-        Fault::ShortArea
-    }
-}
-
-impl From<Refused> for Fault {
-    ghost from_gives = { λ _ r. r ≡ ShortArea };
-
-    fn from(_e: Refused) -> Fault {
-        Fault::ShortArea
-    }
-}
 
 // The station's addresses, an acknowledgement or nothing, and a text: the area then begins with that reply, and is as it
 // was behind it.
@@ -45,7 +22,7 @@ pub fn compose<L: Line>(
     area: &mut [u8],
     acknowledgement: &[u8],
     text: &[u8],
-) -> Result<usize, Fault>
+) -> Result<usize, Refusal>
     ensures { IfOk result (λ n. Shows L.Line.kind area.old soh_first (characters acknowledgement.now text.now) (closed n) area.new) }
 {
     let reply = Begun::new(line, area)?;
@@ -54,6 +31,6 @@ pub fn compose<L: Line>(
     let started = acknowledged.put(line, area, STX)?;
     let told = started.put_all(line, area, text)?;
     let ended = told.put(line, area, ETX)?;
-    let closed: Closed = ended.close(line, area)?;
+    let closed = ended.close(line, area)?;
     Ok(closed.length)
 }

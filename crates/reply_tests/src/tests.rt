@@ -1,5 +1,6 @@
 // Replies on both lines, and areas of every length up to the reply's own.
-use crate::{Fault, compose};
+use crate::compose;
+use area::Refusal;
 use codes::DLE;
 use line::Line;
 use line::asynchronous::AsyncLine;
@@ -41,7 +42,7 @@ fn areas_of_every_length(rt: HostRuntime) {
         let mut area = [0xaa; 12];
         assert_eq!(rt;
             compose(&line, &mut area[0..end], &[], b"A"),
-            Err(Fault::ShortArea)
+            Err(Refusal::ShortArea)
         );
     }
     let mut area = [0xaa; 13];
