@@ -48,6 +48,10 @@ load_codes Call d = call_code d.call
 abbrev pub content : Outstanding → Console → List ℕ
 content q d = cond q.acknowledges (DLE ∷ (ONE ∷ [])) [] ++ load_codes q.load d
 
+-- what a station sends while its last reply is still to be acknowledged
+abbrev pub enquiry : List ℕ
+enquiry = DLE ∷ (ENQ ∷ [])
+
 -- a reply with SOH: the addresses, the content and ETX
 abbrev pub framed : Kind → Identity → List ℕ → List ℕ
 framed k id cs = reply_octets k (id.rid ∷ (id.sid ∷ (DID ∷ (cs ++ (ETX ∷ [])))))
@@ -93,9 +97,9 @@ pub record Spoken : Type 0 where
 abbrev pub with_outstanding : Outstanding → Console → Console
 with_outstanding q d = record { locked = d.locked; light = d.light; held = d.held; call = d.call; outstanding = Some q; due = false }
 
--- the answer to a poll after the settling: DLE ENQ while something is outstanding; else what there is to send, or no traffic
+-- the answer to a poll after the settling: the enquiry while something is outstanding; else what there is to send, or no traffic
 abbrev pub spoken : Kind → Identity → Option Outstanding → Console → Spoken
-spoken k id (Some q) d = record { octets = framed k id (DLE ∷ (ENQ ∷ [])); console = d }
+spoken k id (Some q) d = record { octets = framed k id enquiry; console = d }
 spoken k id None d =
     cond (is_empty (found d)) (record { octets = no_traffic_octets k; console = d })
     (record { octets = framed k id (content (found d) d); console = with_outstanding (found d) d })

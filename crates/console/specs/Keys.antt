@@ -1,5 +1,5 @@
 -- What each key is to do, and when it is refused.
-use Rattle.std.specs.Prelude.{ℕ, ◌-◌, Bool, cond, not, ◌&&◌, List, [], ◌∷◌, Some, None, Ok, Err, Option, Result, nat_le, slice_index_or}
+use Rattle.std.specs.Prelude.{ℕ, ◌-◌, Bool, true, false, cond, not, ◌&&◌, List, [], ◌∷◌, Some, None, Ok, Err, Option, Result, nat_le, slice_index_or}
 use Rattle.codes.specs.Ascii.{BEL, HT, RS}
 use Rattle.codes.specs.Classes.{is_data}
 use Rattle.edit.specs.declared.edits.Reach.TheVariants.{Row, Display}
@@ -48,3 +48,11 @@ guarded_key locked any_open held called (Some a) = guarded locked any_open held 
 -- what a key does now
 abbrev pub decide_key : (locked any_open held called : Bool) → ℕ → Result KeyAction KeyRefusal
 decide_key locked any_open held called c = guarded_key locked any_open held called (key_action c)
+
+-- whether an action takes up a transmission
+abbrev pub takes_up : KeyAction → Bool
+takes_up (Store c) = false
+takes_up (Edit e) = false
+takes_up (Transmit k) = true
+takes_up (Call c) = false
+takes_up Unlock = false

@@ -2,4 +2,3 @@ pub mod Console
 pub mod Keys
 pub mod Messages
 pub mod Numbers
-pub mod Terminal

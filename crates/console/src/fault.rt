@@ -1,8 +1,11 @@
 // The refusals of keys and octets, by their numbers.
 ghost use Rattle.std.specs.Prelude.{◌≡◌};
 ghost use Rattle.console.specs.declared.fault.Cause.TheVariants.{Below};
-ghost use Rattle.console.specs.Numbers.{key_number, message_number, cause_number};
+ghost use Rattle.console.specs.declared.fault.OctetRefusal.TheVariants as octet;
+ghost use Rattle.console.specs.Numbers.{key_number, message_number, cause_number, octet_number};
 
+use area::Refusal;
+use numbered::Numbered;
 use receiver::fault::{Cause as ReceiverCause, Fault as ReceiverFault};
 
 // Why a key is refused.
@@ -15,11 +18,11 @@ pub enum KeyRefusal {
     CallHeld = 5,
 }
 
-impl KeyRefusal {
-    pub fn number(self) -> u8
-        ensures { result ≡ key_number self }
-    {
-        self as u8
+impl Numbered for KeyRefusal {
+    ghost number_of = { key_number };
+
+    fn number(&self) -> u8 {
+        *self as u8
     }
 }
 
@@ -31,11 +34,11 @@ pub enum MessageFault {
     NothingToRepeat = 12,
 }
 
-impl MessageFault {
-    pub fn number(self) -> u8
-        ensures { result ≡ message_number self }
-    {
-        self as u8
+impl Numbered for MessageFault {
+    ghost number_of = { message_number };
+
+    fn number(&self) -> u8 {
+        *self as u8
     }
 }
 
@@ -46,10 +49,10 @@ pub enum Cause {
     Terminal(MessageFault),
 }
 
-impl Cause {
-    pub fn number(self) -> u8
-        ensures { result ≡ cause_number self }
-    {
+impl Numbered for Cause {
+    ghost number_of = { cause_number };
+
+    fn number(&self) -> u8 {
         match self {
             Cause::Below(cause) => cause.number(),
             Cause::Terminal(fault) => fault.number(),
@@ -64,15 +67,6 @@ pub struct Fault {
     pub kept: usize,
 }
 
-// Why an octet is refused.
-#[derive(Clone, Copy, PartialEq, Eq, Debug)]
-pub enum OctetRefusal {
-    // the area is too short for a reply, number 6; the octet is not taken
-    ShortArea,
-    // 7 to 12
-    Fault(Fault),
-}
-
 impl From<ReceiverFault> for Fault {
     ghost from_gives = { λ e r. r ≡ record { cause = Below e.cause; kept = e.kept } };
 
@@ -81,5 +75,41 @@ impl From<ReceiverFault> for Fault {
             cause: Cause::Below(e.cause),
             kept: e.kept,
         }
+    }
+}
+
+// Why an octet is refused.
+#[derive(Clone, Copy, PartialEq, Eq, Debug)]
+pub enum OctetRefusal {
+    // the area is too short for a reply; the octet is not taken
+    Area(Refusal),
+    // the octet is taken, and the message dropped
+    Fault(Fault),
+}
+
+impl Numbered for OctetRefusal {
+    ghost number_of = { octet_number };
+
+    fn number(&self) -> u8 {
+        match self {
+            OctetRefusal::Area(refusal) => refusal.number(),
+            OctetRefusal::Fault(fault) => fault.cause.number(),
+        }
+    }
+}
+
+impl From<Refusal> for OctetRefusal {
+    ghost from_gives = { λ e r. r ≡ octet.Area e };
+
+    fn from(e: Refusal) -> OctetRefusal {
+        OctetRefusal::Area(e)
+    }
+}
+
+impl From<Fault> for OctetRefusal {
+    ghost from_gives = { λ e r. r ≡ octet.Fault e };
+
+    fn from(e: Fault) -> OctetRefusal {
+        OctetRefusal::Fault(e)
     }
 }

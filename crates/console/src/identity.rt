@@ -1,5 +1,5 @@
 // A station's identity.
-#[derive(Clone, Copy)]
+#[derive(Clone, Copy, PartialEq, Eq, Debug)]
 pub struct Identity {
     pub rid: u8,
     pub sid: u8,

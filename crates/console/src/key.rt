@@ -1,7 +1,6 @@
 // What a key is to do, and when it is refused.
 ghost use Rattle.std.specs.Prelude.{◌≡◌};
-ghost use Rattle.console.specs.Keys.{key_action, guarded, decide_key};
-ghost use Rattle.console.specs.Terminal.{takes_up};
+ghost use Rattle.console.specs.Keys.{key_action, guarded, decide_key, takes_up};
 
 use crate::fault::KeyRefusal;
 use codes::{BEL, HT, RS};
@@ -19,7 +18,7 @@ pub enum KeyAction {
 }
 
 // What the guards of a key look at.
-#[derive(Clone, Copy)]
+#[derive(Clone, Copy, PartialEq, Eq, Debug)]
 pub struct Guards {
     pub locked: bool,
     // some cell is open
@@ -70,11 +69,7 @@ impl KeyAction {
     pub fn takes_up(self) -> bool
         ensures { result ≡ takes_up self }
     {
-        match self {
-            KeyAction::Transmit(_) => true,
-            KeyAction::Store(_) | KeyAction::Edit(_) | KeyAction::Call(_) | KeyAction::Unlock =>
-                false,
-        }
+        matches!(self, KeyAction::Transmit(_))
     }
 
     // The action, unless a guard refuses it.
@@ -95,9 +90,7 @@ impl KeyAction {
     pub fn decide(key: u8, guards: Guards) -> Result<KeyAction, KeyRefusal>
         ensures { result ≡ decide_key guards.locked guards.any_open guards.held guards.called key }
     {
-        match KeyAction::of(key) {
-            Some(action) => action.guarded(guards),
-            None => Err(KeyRefusal::NoSuchKey),
-        }
+        let action = KeyAction::of(key).ok_or(KeyRefusal::NoSuchKey)?;
+        action.guarded(guards)
     }
 }

@@ -3,7 +3,7 @@ ghost use Rattle.std.specs.Prelude.{◌≡◌};
 ghost use Rattle.console.specs.Console.{is_empty};
 
 // What a reply carries beside an acknowledgement.
-#[derive(Clone, Copy)]
+#[derive(Clone, Copy, PartialEq, Eq, Debug)]
 pub enum Load {
     Nothing,
     Text,
@@ -11,7 +11,7 @@ pub enum Load {
 }
 
 // The held text or call is the copy that a repeat sends.
-#[derive(Clone, Copy)]
+#[derive(Clone, Copy, PartialEq, Eq, Debug)]
 pub struct Outstanding {
     pub acknowledges: bool,
     pub load: Load,
@@ -22,9 +22,6 @@ impl Outstanding {
     pub fn is_empty(self) -> bool
         ensures { result ≡ is_empty self }
     {
-        match self.load {
-            Load::Nothing => !self.acknowledges,
-            Load::Text | Load::Call => false,
-        }
+        !self.acknowledges && self.load == Load::Nothing
     }
 }
