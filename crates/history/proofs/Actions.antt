@@ -13,8 +13,7 @@ use Rattle.station.specs.declared.identity.Identity.{Identity}
 use Rattle.console.specs.declared.key.KeyAction.{KeyAction}
 use Rattle.console.specs.declared.key.KeyAction.TheVariants.{Store, Edit, Transmit, Call, Unlock}
 use Rattle.console.specs.Keys.{keys}
-use Rattle.console.specs.Messages.{MessageAction, answer_poll, repeat, carry_out}
-use Rattle.station.specs.Addressed.{decide_message}
+use Rattle.console.specs.Messages.{MessageAction, answer_poll, repeat, carry_out, decide_message}
 use Rattle.station.specs.Station.{Station, action_now}
 use Rattle.station.specs.Terminal.{State}
 use Rattle.history.specs.Words.{kept_in, form_at, sent_by_key}
@@ -63,7 +62,7 @@ MessageAccepted s (repeat q) = (form_at s ≡ Some repeat_request) × (s.station
 MessageAccepted s (carry_out t) = form_at s ≡ Some (text t)
 
 pub message_accepted : (id : Identity) (s : State) (kept : List ℕ) → kept ≡ kept_in s.receiver
-    → IfOk (decide_message id s.station.console.outstanding kept) (MessageAccepted s)
+    → IfOk (decide_message id.identifiers s.station.console.outstanding kept) (MessageAccepted s)
 message_accepted id s kept e = grind arith
 
 -- a whole message is what the receiver had kept

@@ -7,7 +7,7 @@ use Rattle.receiver.specs.declared.receive.Event as receive
 use Rattle.receiver.specs.declared.receive.Event.TheVariants.{Nothing, Begun, Message}
 use Rattle.receiver.specs.declared.fault.Fault.{Fault}
 use Rattle.receiver.specs.Receiving.{idle}
-use Rattle.station.specs.declared.fault.OctetRefusal.{OctetRefusal}
+use Rattle.console.specs.declared.fault.OctetRefusal.{OctetRefusal}
 use Rattle.station.specs.declared.identity.Identity.{Identity}
 use Rattle.station.specs.Station.{Outcome}
 use Rattle.station.specs.Terminal.{State, heard_by, heard_outcome}

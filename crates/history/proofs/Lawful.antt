@@ -31,8 +31,7 @@ use Rattle.station.specs.declared.identity.Identity.{Identity}
 use Rattle.console.specs.declared.key.KeyAction.{KeyAction}
 use Rattle.console.specs.declared.key.KeyAction.TheVariants.{Store, Edit, Transmit, Call, Unlock}
 use Rattle.console.specs.declared.outstanding.Outstanding.{Outstanding}
-use Rattle.console.specs.Messages.{MessageAction, answer_poll, repeat, carry_out}
-use Rattle.station.specs.Addressed.{decide_message}
+use Rattle.console.specs.Messages.{MessageAction, answer_poll, repeat, carry_out, decide_message}
 use Rattle.station.specs.Station.{Station, Outcome, said, silent, key_outcome, action_now, message_outcome}
 use Rattle.station.specs.Terminal.{State, with_station, heard_by, told, heard_outcome}
 use Rattle.history.specs.Trace.{Event, key, octet, Transition, widened, outcome_of, Leads, New}
@@ -173,7 +172,7 @@ module _ (k : Kind) (s : State) (past : List Transition) (i : Invariant k past s
     heard_keeps (Ok Nothing) kept whole = quiet_keeps (octet o room) (heard_by k o s) _ refl i.shown i.console
     heard_keeps (Ok Begun) kept whole = quiet_keeps (octet o room) (heard_by k o s) _ refl i.shown i.console
     heard_keeps (Ok (Message n)) kept whole =
-        message_keeps n (decide_message id s.station.console.outstanding kept) (message_accepted id s kept (whole n refl))
+        message_keeps n (decide_message id.identifiers s.station.console.outstanding kept) (message_accepted id s kept (whole n refl))
     heard_keeps (Err f) kept whole = refused_keeps (octet o room) (heard_by k o s) _
 
 module _ (k : Kind) (back : GivesBack k) (id : Identity) where

@@ -3,7 +3,7 @@ use Rattle.std.proofs.Common.{◌≡◌, ℕ, zero, suc, ◌+◌, ◌%◌, Bool,
 use Rattle.std.specs.List.{AllByRecursion}
 use Rattle.std.proofs.lemmas.List.{append_assoc, map-append}
 use Rattle.std.proofs.lemmas.Bool.{ne_eqb, cond_both, false≢true}
-use Rattle.codes.specs.Ascii.{SOH, STX, ETX, EOT, ENQ, DLE, SYN}
+use Rattle.codes.specs.Ascii.{SOH, STX, ETX, EOT, DLE, SYN}
 use Rattle.line.specs.Kind.{Kind, GivesBack}
 use Rattle.message.specs.Forms.{poll, poll_acknowledge}
 use Rattle.transmission.specs.Laws.{Plain}
@@ -13,8 +13,7 @@ use Rattle.station.specs.declared.identity.Identity.{Identity}
 use Rattle.console.specs.declared.outstanding.Load.{Load}
 use Rattle.console.specs.declared.outstanding.Load.TheVariants.{Nothing, Text, Call}
 use Rattle.console.specs.declared.outstanding.Outstanding.{Outstanding}
-use Rattle.console.specs.Console.{Console, DID, ONE, text_codes, call_code, load_codes, content, load_of, found, is_empty, freed, acknowledges_text, Spoken}
-use Rattle.station.specs.Addressed.{framed, spoken, polled}
+use Rattle.console.specs.Console.{Console, DID, ONE, text_codes, call_code, load_codes, content, load_of, found, is_empty, freed, acknowledges_text, Spoken, enquiry, framed, spoken, polled}
 use Rattle.history.specs.Words.{held_count, up_to_ETX, text_sent, has_acknowledgement, finds_nothing}
 
 -- a held text is the last one taken, keeps the keyboard locked, and is plain
@@ -123,21 +122,21 @@ module _ (k : Kind) (back : GivesBack k) (id : Identity) where
 
   -- what stands between DID and ETX shows what the reply shows
   framed_shows : (cs : List ℕ) {acks : Bool} {last : Option (List ℕ)} → ((check : ℕ) → Says (seven_bits cs ++ (ETX ∷ check ∷ [])) acks last)
-      → Shows k (framed k id cs) acks last
+      → Shows k (framed k id.identifiers cs) acks last
   framed_shows cs s =
-      lead_shows (SOH ∷ checked (id.rid ∷ (id.sid ∷ (DID ∷ (cs ++ (ETX ∷ []))))))
-      (rw (append_assoc cs, map-append (λ c. c % 128) cs) (after_plain (SOH ∷ id.rid % 128 ∷ id.sid % 128 ∷ DID ∷ []) (omega arith) (s _)))
+      lead_shows (SOH ∷ checked (id.identifiers.rid ∷ (id.identifiers.sid ∷ (DID ∷ (cs ++ (ETX ∷ []))))))
+      (rw (append_assoc cs, map-append (λ c. c % 128) cs) (after_plain (SOH ∷ id.identifiers.rid % 128 ∷ id.identifiers.sid % 128 ∷ DID ∷ []) (omega arith) (s _)))
 
   pub shows_outstanding : (q : Outstanding) (d : Console) (last : Option (List ℕ))
       → Holds d.held last d.locked → Backs q.load d.held → AllByRecursion Plain (call_code d.call)
-      → Shows k (framed k id (content q d)) q.acknowledges last
+      → Shows k (framed k id.identifiers (content q d)) q.acknowledges last
   shows_outstanding q d last h b c =
       framed_shows (content q d)
       (λ check. content_says q.acknowledges (load_codes q.load d) (ETX ∷ check ∷ []) (load_says q.load d h b c check))
 
-  shows_enquiry : (last : Option (List ℕ)) → Shows k (framed k id (DLE ∷ (ENQ ∷ []))) false last
+  shows_enquiry : (last : Option (List ℕ)) → Shows k (framed k id.identifiers enquiry) false last
   shows_enquiry last =
-      framed_shows (DLE ∷ (ENQ ∷ [])) (λ check. let e = end_says check in record { acknowledgement = e.acknowledgement; text = e.text })
+      framed_shows enquiry (λ check. let e = end_says check in record { acknowledgement = e.acknowledgement; text = e.text })
 
   shows_no_traffic : (last : Option (List ℕ)) → Shows k (no_traffic_octets k) false last
   shows_no_traffic last = lead_shows (checked no_traffic) (after_plain (EOT ∷ EOT ∷ []) (omega arith) (end_says ETX))
@@ -146,7 +145,7 @@ module _ (k : Kind) (back : GivesBack k) (id : Identity) where
   spoken_shows : (a : Bool) (d e : Console) (last : Option (List ℕ)) → e.due ≡ d.due
       → Holds e.held last e.locked → Backed e.outstanding e.held → AllByRecursion Plain (call_code e.call)
       → held_count d.held ≡ cond (acknowledges_text a d.outstanding) 1 0 + held_count e.held
-      → Polled k a d (spoken k id None e) last
+      → Polled k a d (spoken k id.identifiers None e) last
   spoken_shows a d e last same h b c n =
       let none = shows_no_traffic last in
       let finds = finds_held e.held e.call in
@@ -157,7 +156,7 @@ module _ (k : Kind) (back : GivesBack k) (id : Identity) where
 
   pub poll_shows : (a : Bool) (d : Console) (last : Option (List ℕ))
       → Holds d.held last d.locked → Backed d.outstanding d.held → AllByRecursion Plain (call_code d.call)
-      → Polled k a d (polled k id a d) last
+      → Polled k a d (polled k id.identifiers a d) last
   poll_shows a d last h b c = answered a d.outstanding b
     where
       -- the console, and the answer to a poll, with this reply outstanding
@@ -165,7 +164,7 @@ module _ (k : Kind) (back : GivesBack k) (id : Identity) where
       with_reply o = record { locked = d.locked; light = d.light; held = d.held; call = d.call; outstanding = o; due = d.due }
 
       Answered : Bool → Option Outstanding → Type 0
-      Answered a o = Polled k a (with_reply o) (polled k id a (with_reply o)) last
+      Answered a o = Polled k a (with_reply o) (polled k id.identifiers a (with_reply o)) last
 
       -- a poll with acknowledgement, by what the settled reply carried
       settles : (acks : Bool) (l : Load) → Backs l d.held → Answered true (Some (record { acknowledges = acks; load = l }))

@@ -15,8 +15,7 @@ use Rattle.host.specs.Drawing.{drawn_all}
 use Rattle.page.specs.declared.refusal.Refusal.TheVariants.{WrongNumber}
 use Rattle.page.specs.Numbers.{number, first_number}
 use Rattle.station.specs.declared.identity.Identity.{Identity}
-use Rattle.console.specs.Console.{Console, new_console}
-use Rattle.station.specs.Addressed.{polled}
+use Rattle.console.specs.Console.{Console, new_console, polled}
 use Rattle.station.specs.Terminal.{State, keyed}
 
 -- a new screen of 12 rows of 80
@@ -29,7 +28,7 @@ drawn_from p text = drawn_all false (steps_of text) (at new p)
 
 -- the station 31 61
 abbrev station : Identity
-station = record { rid = 0x31; sid = 0x61; rid_least = lit≤ tt; rid_most = lit≤ tt; sid_least = lit≤ tt; sid_most = lit≤ tt }
+station = record { identifiers = record { rid = 0x31; sid = 0x61 }; rid_least = lit≤ tt; rid_most = lit≤ tt; sid_least = lit≤ tt; sid_most = lit≤ tt }
 
 -- a new terminal on that screen
 abbrev made : State
@@ -59,7 +58,7 @@ pub record Settled : Type 0 where
   pub keyed_text : console.held ≡ Some (ESC ∷ VT ∷ 0x20 ∷ 0x20 ∷ SI ∷ RS ∷ 0x41 ∷ 0x20 ∷ [])
   pub keyed_check : block_check (0x31 ∷ 0x61 ∷ 0x70 ∷ STX ∷ ESC ∷ VT ∷ 0x20 ∷ 0x20 ∷ SI ∷ RS ∷ 0x41 ∷ 0x20 ∷ ETX ∷ []) ≡ 0x41
   pub keyed_reply :
-      (polled asynchronous station false console).octets
+      (polled asynchronous station.identifiers false console).octets
       ≡ 0x81 ∷ 0xB1 ∷ 0xE1 ∷ 0xF0 ∷ 0x82 ∷ 0x1B ∷ 0x8B ∷ 0xA0 ∷ 0xA0 ∷ 0x0F ∷ 0x1E ∷ 0x41 ∷ 0xA0 ∷ 0x03 ∷ 0x41 ∷ []
   -- A at place 0, the cursor on B at place 80, else open spaces: TRANSMIT
   pub two_rows :

@@ -1,7 +1,5 @@
-pub mod Addressed
 pub mod Identity
 pub mod Meaning
-pub mod Numbers
 pub mod Shown
 pub mod Station
 pub mod Terminal

@@ -16,12 +16,9 @@ use Rattle.console.specs.declared.fault.MessageFault.{MessageFault}
 use Rattle.station.specs.declared.identity.Identity.{Identity}
 use Rattle.console.specs.declared.key.KeyAction.{KeyAction}
 use Rattle.console.specs.declared.key.KeyAction.TheVariants.{Store, Edit, Transmit, Call, Unlock}
-use Rattle.console.specs.Console.{Console, content, acknowledges_text, holding, calling, unlocked}
-use Rattle.station.specs.Addressed.{framed, polled}
-use Rattle.console.specs.Keys.{decide_key}
-use Rattle.console.specs.Terminal.{takes_up}
-use Rattle.console.specs.Messages.{MessageAction, answer_poll, repeat, carry_out}
-use Rattle.station.specs.Addressed.{decide_message}
+use Rattle.console.specs.Console.{Console, content, framed, polled, acknowledges_text, holding, calling, unlocked}
+use Rattle.console.specs.Keys.{decide_key, takes_up}
+use Rattle.console.specs.Messages.{MessageAction, answer_poll, repeat, carry_out, decide_message}
 
 pub record Station : Type 0 where
   pub view : View
@@ -107,9 +104,9 @@ carries_out xs s =
 -- a message that is accepted
 abbrev pub does_message : {R : Type 0} → Kind → Identity → MessageAction → Station → Outcome R Station
 does_message k id (answer_poll a) s =
-    replies (acknowledges_text a s.console.outstanding) (polled k id a s.console).octets
-    (with_console (polled k id a s.console).console s)
-does_message k id (repeat q) s = replies false (framed k id (content q s.console)) s
+    replies (acknowledges_text a s.console.outstanding) (polled k id.identifiers a s.console).octets
+    (with_console (polled k id.identifiers a s.console).console s)
+does_message k id (repeat q) s = replies false (framed k id.identifiers (content q s.console)) s
 does_message k id (carry_out t) s = carries_out (steps_of t) s
 
 abbrev pub message_outcome : Kind → Identity → Result MessageAction MessageFault → Station → Outcome MessageFault Station
@@ -118,4 +115,4 @@ message_outcome k id (Ok a) s = does_message k id a s
 
 -- a whole message
 abbrev pub obeyed : Kind → Identity → List ℕ → Station → Outcome MessageFault Station
-obeyed k id kept s = message_outcome k id (decide_message id s.console.outstanding kept) s
+obeyed k id kept s = message_outcome k id (decide_message id.identifiers s.console.outstanding kept) s

@@ -13,8 +13,8 @@ use Rattle.console.specs.declared.fault.KeyRefusal.{KeyRefusal}
 use Rattle.console.specs.declared.fault.MessageFault.{MessageFault}
 use Rattle.console.specs.declared.fault.Cause.TheVariants as cause
 use Rattle.console.specs.declared.fault.Fault.{Fault}
-use Rattle.station.specs.declared.fault.OctetRefusal.{OctetRefusal}
-use Rattle.station.specs.declared.fault.OctetRefusal.TheVariants as refusal
+use Rattle.console.specs.declared.fault.OctetRefusal.{OctetRefusal}
+use Rattle.console.specs.declared.fault.OctetRefusal.TheVariants as refusal
 use Rattle.station.specs.declared.identity.Identity.{Identity}
 use Rattle.station.specs.Station.{Station, Outcome, said, silent, pressed, obeyed}
 

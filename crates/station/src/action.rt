@@ -1,8 +1,7 @@
 // What a whole message is to do, and when it is refused.
 ghost use Rattle.std.specs.Prelude.{◌≡◌};
 ghost use Rattle.message.specs.Shown.{the_form, the_message};
-ghost use Rattle.console.specs.Messages.{form_action};
-ghost use Rattle.station.specs.Addressed.{is_own, decide_message};
+ghost use Rattle.console.specs.Messages.{form_action, is_own, decide_message};
 ghost use Rattle.station.specs.Shown.{action_of};
 
 use crate::identity::Identity;
@@ -29,14 +28,12 @@ pub enum MessageAction<'a> {
 impl Identity {
     // Whether a message is for this station.
     pub fn owns(self, message: Message) -> bool
-        ensures { result ≡ is_own self (the_message message.entry) }
+        ensures { result ≡ is_own self.identifiers (the_message message.entry) }
     {
-        let general = match message.form {
-            Form::Poll | Form::PollAcknowledge => message.sid == GENERAL,
-            Form::Repeat | Form::Text(_) => false,
-        };
-        let own = message.sid == self.sid || general;
-        message.rid == self.rid && message.did == DID && own
+        let general = message.sid == GENERAL
+            && matches!(message.form, Form::Poll | Form::PollAcknowledge);
+        let own = message.sid == self.identifiers.sid || general;
+        message.rid == self.identifiers.rid && message.did == DID && own
     }
 }
 
@@ -51,10 +48,10 @@ impl<'a> MessageAction<'a> {
         match form {
             Form::Poll => Ok(MessageAction::Poll(false)),
             Form::PollAcknowledge => Ok(MessageAction::Poll(true)),
-            Form::Repeat => match outstanding {
-                Some(reply) => Ok(MessageAction::Repeat(reply)),
-                None => Err(MessageFault::NothingToRepeat),
-            },
+            Form::Repeat => {
+                let reply = outstanding.ok_or(MessageFault::NothingToRepeat)?;
+                Ok(MessageAction::Repeat(reply))
+            }
             Form::Text(text) => Ok(MessageAction::CarryOut(text)),
         }
     }
@@ -65,11 +62,9 @@ impl<'a> MessageAction<'a> {
         outstanding: Option<Outstanding>,
         characters: &'a [u8],
     ) -> Result<MessageAction<'a>, MessageFault>
-        ensures { action_of result ≡ decide_message identity outstanding characters.now }
+        ensures { action_of result ≡ decide_message identity.identifiers outstanding characters.now }
     {
-        let Some(message) = Message::read(characters) else {
-            return Err(MessageFault::UnknownForm);
-        };
+        let message = Message::read(characters).ok_or(MessageFault::UnknownForm)?;
         if !identity.owns(message) {
             return Err(MessageFault::OtherStation);
         }

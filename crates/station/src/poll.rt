@@ -11,13 +11,12 @@ impl Console {
     pub fn found(&self) -> Outstanding
         ensures { result ≡ found (console_of self.now) }
     {
-        let load = if self.host.holds {
+        let load = if self.host.is_held() {
             Load::Text
+        } else if self.call.is_some() {
+            Load::Call
         } else {
-            match self.call {
-                Some(_) => Load::Call,
-                None => Load::Nothing,
-            }
+            Load::Nothing
         };
         Outstanding {
             acknowledges: self.due,
@@ -35,21 +34,15 @@ impl Console {
         if !acknowledges {
             return false;
         }
-        let Some(reply) = self.outstanding else {
+        let Some(reply) = self.outstanding.take() else {
             return false;
         };
-        self.outstanding = None;
         match reply.load {
-            Load::Nothing => false,
-            Load::Text => {
-                self.host.holds = false;
-                true
-            }
-            Load::Call => {
-                self.call = None;
-                false
-            }
+            Load::Nothing => {}
+            Load::Text => self.host.holds = false,
+            Load::Call => self.call = None,
         }
+        reply.load == Load::Text
     }
 
     // A fresh reply is outstanding, and pays the acknowledgement that was due.

@@ -1,8 +1,9 @@
 // Pressing a key.
-ghost use Rattle.std.specs.Prelude.{◌≡◌, true};
+ghost use Rattle.std.specs.Prelude.{◌≡◌, true, false, cond, ◌==◌};
+ghost use Rattle.codes.specs.Ascii as ascii;
 ghost use Rattle.host.specs.Carrying.{is_some, held_of};
 ghost use Rattle.edit.specs.Writing.{any_open};
-ghost use Rattle.console.specs.Console.{new_console};
+ghost use Rattle.console.specs.Console.{new_console, calling};
 ghost use Rattle.station.specs.Meaning.{console_of, station_of};
 ghost use Rattle.station.specs.Station.{does_key, is_called, can_do, pressed};
 
@@ -73,19 +74,14 @@ impl Console {
     }
 
     // MESSAGE WAIT, which calls with BEL, puts the light off.
-    fn call<S: Screen>(&mut self, screen: &S, code: u8)
-        ensures { station_of (S.grid screen.now) self.new ≡ does_key (KeyAction.Call code) (station_of (S.grid screen.now) self.old) }
+    fn call(&mut self, code: u8)
+        ensures after { console_of self.new ≡ calling code (cond (code == ascii.BEL) false self.old.host.light) (console_of self.old) }
+        ensures cursor { self.new.host.cursor ≡ self.old.host.cursor }
     {
         self.call = Some(code);
         if code == BEL {
             self.host.light = false;
         }
-    }
-
-    fn unlock<S: Screen>(&mut self, screen: &S)
-        ensures { station_of (S.grid screen.now) self.new ≡ does_key KeyAction.Unlock (station_of (S.grid screen.now) self.old) }
-    {
-        self.host.locked = false;
     }
 
     // Does what a key is to do.
@@ -98,8 +94,8 @@ impl Console {
             KeyAction::Store(code) => self.store(screen, code),
             KeyAction::Edit(edit) => self.edit(screen, edit),
             KeyAction::Transmit(kind) => self.transmit(screen, kind),
-            KeyAction::Call(code) => self.call(screen, code),
-            KeyAction::Unlock => self.unlock(screen),
+            KeyAction::Call(code) => self.call(code),
+            KeyAction::Unlock => self.host.locked = false,
         }
     }
 

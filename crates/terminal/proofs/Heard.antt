@@ -4,7 +4,7 @@ use Rattle.line.specs.Kind.{Kind}
 use Rattle.receiver.specs.declared.fault.Fault as below
 use Rattle.receiver.specs.declared.receive.Event.{Event}
 use Rattle.console.specs.declared.fault.Fault.{Fault}
-use Rattle.station.specs.declared.fault.OctetRefusal.TheVariants as refusal
+use Rattle.console.specs.declared.fault.OctetRefusal.TheVariants as refusal
 use Rattle.station.specs.declared.identity.Identity.{Identity}
 use Rattle.station.specs.Station.{silent}
 use Rattle.station.specs.Terminal.{State, heard_fault, heard_outcome}

@@ -1,4 +1,5 @@
 mod Cleared
+mod Front
 mod Heard
 mod Texts
 mod Told

@@ -1,7 +1,6 @@
 -- What a caller sees of an event is what the definition says: no reply to a key, and the reply to an octet in the area.
-use Rattle.std.proofs.Common.{◌≡◌, ℕ, ltb, List, length, take, drop, Ok, Err, Result, sym, refl, ap, ◌∙◌}
-use Rattle.std.proofs.lemmas.Bool.{cond_both}
-use lib.Seq.{take-append_seam}
+use Rattle.std.proofs.Common.{◌≡◌, ℕ, ◌<◌, ◌≤◌, ltb, List, length, take, Ok, Err, Result, sym, refl, ap, ◌∙◌, arith}
+use Rattle.std.proofs.lemmas.Bool.{cond_both, cond-true, cond-false, lt-ltb}
 use Rattle.area.specs.Over.{over}
 use Rattle.line.specs.Kind.{Kind}
 use Rattle.receiver.specs.declared.fault.Fault as below
@@ -10,15 +9,17 @@ use Rattle.receiver.specs.declared.receive.Event.TheVariants as event
 use Rattle.receiver.specs.Hearing.{hear}
 use Rattle.console.specs.declared.fault.KeyRefusal.{KeyRefusal}
 use Rattle.console.specs.declared.fault.MessageFault.{MessageFault}
-use Rattle.station.specs.declared.fault.OctetRefusal.{OctetRefusal}
+use Rattle.console.specs.declared.fault.OctetRefusal.{OctetRefusal}
+use Rattle.console.specs.declared.fault.OctetRefusal.TheVariants as refusal
+use Rattle.area.specs.declared.Refusal.TheVariants.{ShortArea}
 use Rattle.station.specs.declared.identity.Identity.{Identity}
-use Rattle.console.specs.Messages.{MessageAction, answer_poll, repeat, carry_out}
-use Rattle.station.specs.Addressed.{decide_message}
-use Rattle.station.specs.Station.{Station, Outcome, message_outcome}
+use Rattle.console.specs.Messages.{MessageAction, answer_poll, repeat, carry_out, decide_message}
+use Rattle.station.specs.Station.{Station, Outcome, silent, message_outcome}
 use Rattle.station.specs.Terminal.{State, keyed, told, heard_by, heard_outcome, taken, received}
 use Rattle.console.specs.declared.answer.Answer.{Answer}
 use Rattle.history.specs.Trace.{key, octet, outcome_of}
 use Rattle.terminal.specs.Seen.{reply_length, seen_key, seen_octet}
+use Rattle.terminal.proofs.Front.{written_first}
 
 module _ (k : Kind) (id : Identity) where
   message_told : (n : ℕ) (r : Result MessageAction MessageFault) (s : Station)
@@ -32,17 +33,20 @@ module _ (k : Kind) (id : Identity) where
       → reply_length (heard_outcome k id x kept s).answer ≡ length (heard_outcome k id x kept s).reply
   heard_told (Ok event.Nothing) kept s = refl
   heard_told (Ok event.Begun) kept s = refl
-  heard_told (Ok (event.Message n)) kept s = message_told n (decide_message id s.station.console.outstanding kept) s.station
+  heard_told (Ok (event.Message n)) kept s = message_told n (decide_message id.identifiers s.station.console.outstanding kept) s.station
   heard_told (Err f) kept s = refl
+
+  -- an octet with too short an area, and one that is taken
+  pub received_short : (c room : ℕ) (s : State) → room < 5800 → received k id c room s ≡ silent (Err (refusal.Area ShortArea)) s
+  received_short c room s h = cond-true (ltb room 5800) _ _ (lt-ltb room 5800 h)
+
+  pub received_taken : (c room : ℕ) (s : State) → 5800 ≤ room → received k id c room s ≡ taken k id c s
+  received_taken c room s h = cond-false (ltb room 5800) _ _ (grind arith)
 
   reply_told : (c room : ℕ) (s : State) → reply_length (received k id c room s).answer ≡ length (received k id c room s).reply
   reply_told c room s =
       cond_both (ltb room 5800) _ (taken k id c s) (λ (o : Outcome OctetRefusal State). reply_length o.answer ≡ length o.reply) (λ _. refl)
       (λ _. heard_told (hear k s.wants s.receiver c).answer _ (heard_by k c s))
-
--- what is written over an area stands at its front
-written_first : (octets area : List ℕ) → take (length octets) (over octets area) ≡ octets
-written_first octets area = take-append_seam octets (drop (length octets) area)
 
 pub key_seen : (k : Kind) (id : Identity) (c : ℕ) (s : State) (r : Result Answer KeyRefusal) (t : State) → r ≡ (keyed c s).answer → t ≡ (keyed c s).after → outcome_of k id (key c) s ≡ seen_key r t
 key_seen k id c s r t a b = cc

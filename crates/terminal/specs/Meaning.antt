@@ -1,5 +1,5 @@
 -- What a terminal in the code stands for.
-use Rattle.std.specs.Prelude.{ℕ, List, Some, None, Option}
+use Rattle.std.specs.Prelude.{ℕ}
 use Rattle.receiver.specs.Meaning as receiver
 use Rattle.screen.specs.Grid.{Grid}
 use Rattle.station.specs.Meaning.{station_of}
@@ -13,8 +13,3 @@ state_of wants grid t = record {
   receiver = receiver.state_of t.receiver;
   station = station_of (grid t.screen.now) t.console;
 }
-
--- the text in a result, by what its reference points to
-abbrev pub text_in : {A : Type 0} → (A → List ℕ) → Option A → Option (List ℕ)
-text_in get None = None
-text_in get (Some t) = Some (get t)

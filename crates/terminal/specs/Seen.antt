@@ -2,7 +2,7 @@
 use Rattle.std.specs.Prelude.{ℕ, List, [], take, Some, None, Ok, Err, Option, Result}
 use Rattle.console.specs.declared.answer.Answer.{Answer}
 use Rattle.console.specs.declared.fault.KeyRefusal.{KeyRefusal}
-use Rattle.station.specs.declared.fault.OctetRefusal.{OctetRefusal}
+use Rattle.console.specs.declared.fault.OctetRefusal.{OctetRefusal}
 use Rattle.station.specs.declared.fault.Refusal.{Refusal}
 use Rattle.station.specs.declared.fault.Refusal.TheVariants.{Key, Octet}
 use Rattle.station.specs.Station.{Outcome}

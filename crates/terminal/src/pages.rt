@@ -1,6 +1,7 @@
 // Kept pages on a terminal's screen.
 ghost use Rattle.std.specs.Prelude.{◌≡◌};
 ghost use Rattle.page.specs.Calls.{reads};
+ghost use Rattle.terminal.specs.Same.{SameTerminal};
 
 use crate::terminal::Terminal;
 use line::Line;
@@ -12,9 +13,7 @@ impl<'s, L: Line, S: Screen> Terminal<'s, L, S> {
     // Reads a page onto the screen, and answers the cursor place that it has. The terminal's own cursor, its lock and all
     // else stay.
     pub fn read_page(&mut self, octets: &[u8]) -> Result<usize, Refusal>
-        ensures screen { self.new.screen.ghost_name ≡ self.old.screen.ghost_name }
-        ensures rest { S.rest self.new.screen.now ≡ S.rest self.old.screen.now }
-        ensures identity { self.new.identity ≡ self.old.identity }
+        ensures same { SameTerminal S.Screen.rest self.old self.new }
         ensures line { self.new.line ≡ self.old.line }
         ensures receiver { self.new.receiver ≡ self.old.receiver }
         ensures console { self.new.console ≡ self.old.console }

@@ -1,7 +1,8 @@
 // What can be seen of a terminal.
 ghost use Rattle.std.specs.Prelude.{◌≡◌};
 ghost use Rattle.screen.specs.Answers.{read_at};
-ghost use Rattle.terminal.specs.Meaning.{state_of, text_in};
+ghost use Rattle.station.specs.Shown.{text_in};
+ghost use Rattle.terminal.specs.Meaning.{state_of};
 
 use crate::terminal::Terminal;
 use console::outstanding::Outstanding;
@@ -57,11 +58,7 @@ impl<'s, L: Line, S: Screen> Terminal<'s, L, S> {
     pub fn held(&self) -> Option<&[u8]>
         ensures { text_in (λ x. x.now) result ≡ (state_of L.Line.wants S.Screen.grid self.now).station.console.held }
     {
-        if self.console.host.holds {
-            Some(self.console.host.text.text())
-        } else {
-            None
-        }
+        self.console.held()
     }
 
     // The call that waits for its acknowledgement.

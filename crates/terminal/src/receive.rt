@@ -5,63 +5,39 @@ ghost use Rattle.station.specs.Terminal.{keyed, received};
 ghost use Rattle.history.specs.Trace.{key as by_key, octet as by_octet};
 ghost use Rattle.history.specs.Law.{KeepsLaw};
 ghost use Rattle.terminal.specs.Meaning.{state_of};
+ghost use Rattle.terminal.specs.Same.{SameTerminal};
 ghost use Rattle.terminal.specs.Seen.{seen_key, seen_octet};
 
+use crate::send::ROOM;
 use crate::terminal::Terminal;
+use area::Refusal;
 use console::answer::Answer;
-use console::fault::KeyRefusal;
+use console::fault::{KeyRefusal, OctetRefusal};
 use line::Line;
 use screen::interface::Screen;
-use station::fault::OctetRefusal;
 
 impl<'s, L: Line, S: Screen> Terminal<'s, L, S> {
     // Presses a key.
     pub fn press(&mut self, key: u8) -> Result<Answer, KeyRefusal>
-        ensures screen { self.new.screen.ghost_name ≡ self.old.screen.ghost_name }
-        ensures rest { S.rest self.new.screen.now ≡ S.rest self.old.screen.now }
-        ensures identity { self.new.identity ≡ self.old.identity }
+        ensures same { SameTerminal S.Screen.rest self.old self.new }
         ensures answer { result ≡ (keyed key (state_of L.Line.wants S.Screen.grid self.old)).answer }
         ensures after { state_of L.Line.wants S.Screen.grid self.new ≡ (keyed key (state_of L.Line.wants S.Screen.grid self.old)).after }
         ensures law { KeepsLaw L.Line.kind self.old.identity (by_key key) (state_of L.Line.wants S.Screen.grid self.old) (seen_key result (state_of L.Line.wants S.Screen.grid self.new)) }
     {
-        self.lawful_key(key)
+        self.console.press(self.screen, key)
     }
 
     // Receives an octet, with an area for the reply.
     pub fn receive(&mut self, octet: u8, area: &mut [u8]) -> Result<Answer, OctetRefusal>
-        ensures screen { self.new.screen.ghost_name ≡ self.old.screen.ghost_name }
-        ensures rest { S.rest self.new.screen.now ≡ S.rest self.old.screen.now }
-        ensures identity { self.new.identity ≡ self.old.identity }
+        ensures same { SameTerminal S.Screen.rest self.old self.new }
         ensures answer { result ≡ (received L.Line.kind self.old.identity octet (length area.old) (state_of L.Line.wants S.Screen.grid self.old)).answer }
         ensures area { area.new ≡ over (received L.Line.kind self.old.identity octet (length area.old) (state_of L.Line.wants S.Screen.grid self.old)).reply area.old }
         ensures after { state_of L.Line.wants S.Screen.grid self.new ≡ (received L.Line.kind self.old.identity octet (length area.old) (state_of L.Line.wants S.Screen.grid self.old)).after }
         ensures law { KeepsLaw L.Line.kind self.old.identity (by_octet octet (length area.old)) (state_of L.Line.wants S.Screen.grid self.old) (seen_octet result area.new (state_of L.Line.wants S.Screen.grid self.new)) }
     {
-        self.lawful_octet(octet, area)
-    }
-
-    // The step of a key, of which the law is shown.
-    fn lawful_key(&mut self, key: u8) -> Result<Answer, KeyRefusal>
-        ensures screen { self.new.screen.ghost_name ≡ self.old.screen.ghost_name }
-        ensures rest { S.rest self.new.screen.now ≡ S.rest self.old.screen.now }
-        ensures identity { self.new.identity ≡ self.old.identity }
-        ensures answer { result ≡ (keyed key (state_of L.Line.wants S.Screen.grid self.old)).answer }
-        ensures after { state_of L.Line.wants S.Screen.grid self.new ≡ (keyed key (state_of L.Line.wants S.Screen.grid self.old)).after }
-        ensures law { KeepsLaw L.Line.kind self.old.identity (by_key key) (state_of L.Line.wants S.Screen.grid self.old) (seen_key result (state_of L.Line.wants S.Screen.grid self.new)) }
-    {
-        self.step_key(key)
-    }
-
-    // The step of an octet, of which the law is shown.
-    fn lawful_octet(&mut self, octet: u8, area: &mut [u8]) -> Result<Answer, OctetRefusal>
-        ensures screen { self.new.screen.ghost_name ≡ self.old.screen.ghost_name }
-        ensures rest { S.rest self.new.screen.now ≡ S.rest self.old.screen.now }
-        ensures identity { self.new.identity ≡ self.old.identity }
-        ensures answer { result ≡ (received L.Line.kind self.old.identity octet (length area.old) (state_of L.Line.wants S.Screen.grid self.old)).answer }
-        ensures area { area.new ≡ over (received L.Line.kind self.old.identity octet (length area.old) (state_of L.Line.wants S.Screen.grid self.old)).reply area.old }
-        ensures after { state_of L.Line.wants S.Screen.grid self.new ≡ (received L.Line.kind self.old.identity octet (length area.old) (state_of L.Line.wants S.Screen.grid self.old)).after }
-        ensures law { KeepsLaw L.Line.kind self.old.identity (by_octet octet (length area.old)) (state_of L.Line.wants S.Screen.grid self.old) (seen_octet result area.new (state_of L.Line.wants S.Screen.grid self.new)) }
-    {
-        self.step_octet(octet, area)
+        let Some(room) = area.first_chunk_mut::<ROOM>() else {
+            return Err(OctetRefusal::Area(Refusal::ShortArea));
+        };
+        self.take(octet, room)
     }
 }

@@ -1,68 +1,21 @@
-// One step of a terminal: a key or an octet.
-ghost use Rattle.std.specs.Prelude.{◌≡◌, ◌≤◌, length, Ok};
+// An octet that is taken: what line and receiver hear is answered.
+ghost use Rattle.std.specs.Prelude.{◌≡◌, length, Ok};
 ghost use Rattle.area.specs.Over.{over};
 ghost use Rattle.receiver.specs.Meaning.{message_of};
 ghost use Rattle.receiver.specs.Hearing.{hear};
-ghost use Rattle.station.specs.Meaning.{station_of};
-ghost use Rattle.station.specs.Station.{obeyed};
-ghost use Rattle.station.specs.Terminal.{keyed, received, taken, heard_by, heard_fault, heard_outcome, told};
+ghost use Rattle.station.specs.Terminal.{taken, heard_by, heard_fault, heard_outcome};
 ghost use Rattle.terminal.specs.Meaning.{state_of};
+ghost use Rattle.terminal.specs.Same.{SameTerminal};
 
-use crate::obey::obey;
+use crate::send::{ROOM, Sender};
 use crate::terminal::Terminal;
-use area::Refusal;
 use console::answer::Answer;
-use console::fault::{Fault, KeyRefusal};
+use console::fault::{Fault, OctetRefusal};
 use line::Line;
-use receiver::message::Receiver;
 use receiver::receive::Event;
 use screen::interface::Screen;
-use station::fault::OctetRefusal;
-use station::identity::Identity;
-use station::state::Console;
-
-// The longest reply fits into so many octets.
-pub const ROOM: usize = 5800;
-
-// Does what the message that the receiver has just finished asks.
-fn finish<L: Line, S: Screen>(
-    line: &L,
-    identity: Identity,
-    screen: &mut S,
-    console: &mut Console,
-    receiver: &Receiver,
-    kept: usize,
-    area: &mut [u8],
-) -> Result<Answer, OctetRefusal>
-    requires { 5800 ≤ length area.old }
-    ensures rest { S.rest screen.new ≡ S.rest screen.old }
-    ensures answer { result ≡ told kept (obeyed L.Line.kind identity (message_of receiver.now) (station_of (S.grid screen.old) console.old)).answer }
-    ensures area { area.new ≡ over (obeyed L.Line.kind identity (message_of receiver.now) (station_of (S.grid screen.old) console.old)).reply area.old }
-    ensures after { station_of (S.grid screen.new) console.new ≡ (obeyed L.Line.kind identity (message_of receiver.now) (station_of (S.grid screen.old) console.old)).after }
-{
-    obey(
-        line,
-        identity,
-        screen,
-        console,
-        receiver.message(),
-        kept,
-        area,
-    )
-}
 
 impl<'s, L: Line, S: Screen> Terminal<'s, L, S> {
-    // A key.
-    pub(crate) fn step_key(&mut self, key: u8) -> Result<Answer, KeyRefusal>
-        ensures screen { self.new.screen.ghost_name ≡ self.old.screen.ghost_name }
-        ensures rest { S.rest self.new.screen.now ≡ S.rest self.old.screen.now }
-        ensures identity { self.new.identity ≡ self.old.identity }
-        ensures answer { result ≡ (keyed key (state_of L.Line.wants S.Screen.grid self.old)).answer }
-        ensures after { state_of L.Line.wants S.Screen.grid self.new ≡ (keyed key (state_of L.Line.wants S.Screen.grid self.old)).after }
-    {
-        self.console.press(self.screen, key)
-    }
-
     // Line and receiver take an octet.
     fn hear(&mut self, octet: u8) -> Result<Event, Fault>
         ensures screen { self.new.screen.ghost_name ≡ self.old.screen.ghost_name }
@@ -76,57 +29,34 @@ impl<'s, L: Line, S: Screen> Terminal<'s, L, S> {
     }
 
     // Answers what line and receiver made of an octet.
-    fn respond(&mut self, event: Event, area: &mut [u8]) -> Result<Answer, OctetRefusal>
-        requires { 5800 ≤ length area.old }
-        ensures screen { self.new.screen.ghost_name ≡ self.old.screen.ghost_name }
-        ensures rest { S.rest self.new.screen.now ≡ S.rest self.old.screen.now }
-        ensures identity { self.new.identity ≡ self.old.identity }
+    fn respond(&mut self, event: Event, area: &mut [u8; ROOM]) -> Result<Answer, OctetRefusal>
+        ensures same { SameTerminal S.Screen.rest self.old self.new }
         ensures answer { result ≡ (heard_outcome L.Line.kind self.old.identity (Ok event) (message_of self.old.receiver) (state_of L.Line.wants S.Screen.grid self.old)).answer }
         ensures area { area.new ≡ over (heard_outcome L.Line.kind self.old.identity (Ok event) (message_of self.old.receiver) (state_of L.Line.wants S.Screen.grid self.old)).reply area.old }
         ensures after { state_of L.Line.wants S.Screen.grid self.new ≡ (heard_outcome L.Line.kind self.old.identity (Ok event) (message_of self.old.receiver) (state_of L.Line.wants S.Screen.grid self.old)).after }
     {
         match event {
-            Event::Message(kept) => finish(
-                &self.line,
-                self.identity,
-                self.screen,
-                &mut self.console,
-                &self.receiver,
-                kept,
-                area,
-            ),
+            Event::Message(kept) => {
+                let sender = Sender {
+                    line: &self.line,
+                    identity: self.identity,
+                };
+                let message = self.receiver.message();
+                sender.obey(area, self.screen, &mut self.console, message, kept)
+            }
             Event::Nothing | Event::Begun => Ok(Answer::silent(false, false)),
         }
     }
 
     // Takes an octet that has room for its reply.
-    fn take(&mut self, octet: u8, area: &mut [u8]) -> Result<Answer, OctetRefusal>
-        requires { 5800 ≤ length area.old }
-        ensures screen { self.new.screen.ghost_name ≡ self.old.screen.ghost_name }
-        ensures rest { S.rest self.new.screen.now ≡ S.rest self.old.screen.now }
-        ensures identity { self.new.identity ≡ self.old.identity }
+    pub(crate) fn take(&mut self, octet: u8, area: &mut [u8; ROOM]) -> Result<Answer, OctetRefusal>
+        ensures same { SameTerminal S.Screen.rest self.old self.new }
         ensures answer { result ≡ (taken L.Line.kind self.old.identity octet (state_of L.Line.wants S.Screen.grid self.old)).answer }
         ensures area { area.new ≡ over (taken L.Line.kind self.old.identity octet (state_of L.Line.wants S.Screen.grid self.old)).reply area.old }
+        ensures room { length area.new ≡ length area.old }
         ensures after { state_of L.Line.wants S.Screen.grid self.new ≡ (taken L.Line.kind self.old.identity octet (state_of L.Line.wants S.Screen.grid self.old)).after }
     {
-        match self.hear(octet) {
-            Ok(event) => self.respond(event, area),
-            Err(fault) => Err(OctetRefusal::Fault(fault)),
-        }
-    }
-
-    // An octet, with an area for the reply.
-    pub(crate) fn step_octet(&mut self, octet: u8, area: &mut [u8]) -> Result<Answer, OctetRefusal>
-        ensures screen { self.new.screen.ghost_name ≡ self.old.screen.ghost_name }
-        ensures rest { S.rest self.new.screen.now ≡ S.rest self.old.screen.now }
-        ensures identity { self.new.identity ≡ self.old.identity }
-        ensures answer { result ≡ (received L.Line.kind self.old.identity octet (length area.old) (state_of L.Line.wants S.Screen.grid self.old)).answer }
-        ensures area { area.new ≡ over (received L.Line.kind self.old.identity octet (length area.old) (state_of L.Line.wants S.Screen.grid self.old)).reply area.old }
-        ensures after { state_of L.Line.wants S.Screen.grid self.new ≡ (received L.Line.kind self.old.identity octet (length area.old) (state_of L.Line.wants S.Screen.grid self.old)).after }
-    {
-        if area.len() < ROOM {
-            return Err(OctetRefusal::Area(Refusal::ShortArea));
-        }
-        self.take(octet, area)
+        let event = self.hear(octet)?;
+        self.respond(event, area)
     }
 }

@@ -25,17 +25,17 @@ loop-event-preserved g c =
     let event : Event = get_or events i (Key 0) in
     let inv = c.loop-event.invariant in
     let b = state c.loop-event.self in
-    let e = c.step-answer.ensures in
+    let e = c.step.ensures in
     let at : ℕ → Identity → Outcome Refusal State = λ n x. outcome_of k x (event_of n event) b in
     let same : at (length c.loop-event.area) c.loop-event.self.identity ≡ at room id = ap (λ n. at n c.loop-event.self.identity) c.loop-event.auto.area ∙ ap (at room) inv.4 in
     let more : map (event_of room) (take (i + 1) events) ≡ map (event_of room) (take i events) ++ (event_of room event ∷ []) =
     ap (map (event_of room)) (take_more events i (Key 0) c.loop-event-test.true) ∙ map_push (event_of room) (take i events) event in (
       c.push_reserved.ensures.len ∙ ap (λ n. n + 1) inv.0,
       omega (arith, c.push_reserved.ensures.capacity, inv.1),
-      e.screen ∙ inv.2,
-      e.rest ∙ inv.3,
-      e.identity ∙ inv.4,
-      ran_more k id _ _ _ _ _ _ _ _ _ _ (event_of room event) c.step-answer.result inv.5
+      e.same.screen ∙ inv.2,
+      e.same.rest ∙ inv.3,
+      e.same.identity ∙ inv.4,
+      ran_more k id _ _ _ _ _ _ _ _ _ _ (event_of room event) c.step.result inv.5
           (e.answer ∙ ap (λ (o : Outcome Refusal State). o.answer) same)
           (e.area ∙ ap (λ (o : Outcome Refusal State). over o.reply c.loop-event.area) same)
           (e.after ∙ ap (λ (o : Outcome Refusal State). o.after) same)
@@ -58,8 +58,6 @@ returns g c =
     let t = state c.loop-event.self in
     let ran = subst (λ es. Ran k id es answers s t c.args.area.now c.loop-event.area) all inv.5 in
     record {
-      screen = inv.2;
-      rest = inv.3;
-      identity = inv.4;
+      same = record { screen = inv.2; rest = inv.3; identity = inv.4 };
       runs = ran_lawfully k id m.back m.detects m.range (map f events) answers s t c.args.area.now c.loop-event.area ran;
     }

@@ -4,7 +4,7 @@ use Rattle.codes.specs.Ascii.{ETX}
 use Rattle.reply.specs.Octets.{soh_first}
 use Rattle.reply.specs.Progress.{Shows}
 use Rattle.console.specs.Console.{DID}
-use Rattle.terminal.proofs.send.compose.Goals as goal
+use Rattle.terminal.proofs.send.Sender.compose.Goals as goal
 
 pub returns : goal.returns
 returns g c =
@@ -12,7 +12,8 @@ returns g c =
     let ack = c.args.acknowledgement.now in
     let first = c.args.first.now in
     let text = c.args.text.now in
-    let from : List ℕ → List ℕ = λ t. c.args.identity.rid ∷ (c.args.identity.sid ∷ (DID ∷ t)) in
+    let station = c.args.self.now.identity.identifiers in
+    let from : List ℕ → List ℕ = λ t. station.rid ∷ (station.sid ∷ (DID ∷ t)) in
     let begun = c.in_ok-reply.ensures.begins in
     let addressed = c.in_ok-addressed.ensures.extends before soh_first [] begun in
     let acknowledged = c.in_ok-acknowledged.ensures.extends before soh_first (from []) addressed in
