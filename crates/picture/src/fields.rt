@@ -1,54 +1,49 @@
 // The fields of a form: the runs of open cells between protected ones, in reading order.
 use codes::SPACE;
-use edit::cell::cell_at;
+use edit::cell::{cell_at, cell_count};
 use screen::interface::Screen;
 use std::io;
 use std::io::Write;
+use std::ops::Range;
 
 fn is_open<S: Screen>(screen: &S, place: usize) -> bool {
     !cell_at(screen, place).1
 }
 
-// Where the open cells from a place on end.
-fn open_end<S: Screen>(screen: &S, from: usize, count: usize) -> usize {
-    for place in from..count {
-        if !is_open(screen, place) {
-            return place;
-        }
-    }
-    count
+fn is_visible<S: Screen>(screen: &S, place: usize) -> bool {
+    cell_at(screen, place).0 > SPACE
 }
 
-// Where the caption before a field begins: the protected cells before it in its row, without leading spaces.
-fn caption_start<S: Screen>(screen: &S, row_start: usize, field: usize) -> usize {
-    let mut start = row_start;
-    for place in row_start..field {
-        let (code, protected) = cell_at(screen, place);
-        if !protected || code <= SPACE && start == place {
-            start = place.saturating_add(1);
-        }
-    }
-    start
+// Whether a field begins at a place: an open cell that no open cell stands before.
+fn begins<S: Screen>(screen: &S, place: usize) -> bool {
+    is_open(screen, place) && (place == 0 || !is_open(screen, place - 1))
 }
 
-// The caption's characters, without spaces at their end.
+// The places of the field that begins at one.
+fn field<S: Screen>(screen: &S, start: usize) -> Range<usize> {
+    let count = cell_count(screen);
+    let end = (start..count).find(|place| !is_open(screen, *place));
+    start..end.unwrap_or(count)
+}
+
+// The caption before a field: what stands in the protected cells before it in its row, without the spaces around it.
 fn caption<S: Screen, W: Write>(
     out: &mut W,
     screen: &S,
-    start: usize,
-    end: usize,
+    row_start: usize,
+    field: usize,
 ) -> io::Result<()> {
-    let mut spaces = 0usize;
-    for place in start..end {
-        let code = cell_at(screen, place).0;
-        if code <= SPACE {
-            spaces = spaces.saturating_add(1);
-        } else {
-            for _ in 0..spaces {
-                out.write_all(b" ")?;
-            }
-            spaces = 0;
-            out.write_all(&[code])?;
+    let start = (row_start..field)
+        .rev()
+        .find(|place| is_open(screen, *place))
+        .map_or(row_start, |open| open + 1);
+    let first = (start..field).find(|place| is_visible(screen, *place));
+    let last = (start..field)
+        .rev()
+        .find(|place| is_visible(screen, *place));
+    if let (Some(first), Some(last)) = (first, last) {
+        for place in first..=last {
+            out.write_all(&[cell_at(screen, place).0.max(SPACE)])?;
         }
     }
     Ok(())
@@ -58,34 +53,25 @@ fn entry<S: Screen, W: Write>(
     out: &mut W,
     screen: &S,
     number: usize,
-    field: usize,
-    length: usize,
+    field: Range<usize>,
 ) -> io::Result<()> {
-    let Ok((row, column)) = screen.split(field) else {
+    let start = field.start;
+    let Ok((row, column)) = screen.split(start) else {
         return Ok(());
     };
+    let length = field.len();
     write!(out, "{number:>5} {row:>4} {column:>7} {length:>7}  ")?;
-    caption(
-        out,
-        screen,
-        caption_start(screen, field.saturating_sub(column), field),
-        field,
-    )?;
+    caption(out, screen, start - column, start)?;
     out.write_all(b"\n")
 }
 
 // The table of the fields.
 pub fn table<S: Screen, W: Write>(out: &mut W, screen: &S) -> io::Result<()> {
-    let count = screen.rows().saturating_mul(screen.columns());
     out.write_all(b"field  row  column  length  caption\n")?;
-    let mut number = 0usize;
-    let mut end = 0usize;
-    for place in 0..count {
-        if place >= end && is_open(screen, place) {
-            end = open_end(screen, place, count);
-            number = number.saturating_add(1);
-            entry(out, screen, number, place, end.saturating_sub(place))?;
-        }
+    let count = cell_count(screen);
+    let starts = (0..count).filter(|place| begins(screen, *place));
+    for (number, start) in (1..=count).zip(starts) {
+        entry(out, screen, number, field(screen, start))?;
     }
     Ok(())
 }

@@ -1,6 +1,8 @@
 // Each row by its number, with its characters and a map of its protection.
-use crate::cells::Cells;
+use crate::places::row_places;
 use codes::{FS, GS, HT, RS};
+use edit::cell::cell_at;
+use screen::interface::Screen;
 use std::io;
 use std::io::Write;
 
@@ -16,46 +18,19 @@ fn character<W: Write>(out: &mut W, code: u8) -> io::Result<()> {
     }
 }
 
-fn row<C: Cells, W: Write>(
-    out: &mut W,
-    cells: &C,
-    number: usize,
-    first: usize,
-    columns: usize,
-) -> io::Result<()> {
-    write!(out, "row {number} |")?;
-    for column in 0..columns {
-        character(out, cells.cell(first.saturating_add(column)).0)?;
-    }
-    out.write_all(b"|\n")
-}
-
-fn map<C: Cells, W: Write>(
-    out: &mut W,
-    cells: &C,
-    number: usize,
-    first: usize,
-    columns: usize,
-) -> io::Result<()> {
-    write!(out, "map {number} |")?;
-    for column in 0..columns {
-        let mark = if cells.cell(first.saturating_add(column)).1 {
-            b'#'
-        } else {
-            b'.'
-        };
-        out.write_all(&[mark])?;
-    }
-    out.write_all(b"|\n")
-}
-
 // All rows, each with its map after it.
-pub fn rows<C: Cells, W: Write>(out: &mut W, cells: &C) -> io::Result<()> {
-    let columns = cells.width();
-    for number in 0..cells.height() {
-        let first = number.saturating_mul(columns);
-        row(out, cells, number, first, columns)?;
-        map(out, cells, number, first, columns)?;
+pub fn rows<S: Screen, W: Write>(out: &mut W, screen: &S) -> io::Result<()> {
+    for row in 0..screen.rows() {
+        write!(out, "row {row} |")?;
+        for place in row_places(screen, row) {
+            character(out, cell_at(screen, place).0)?;
+        }
+        write!(out, "|\nmap {row} |")?;
+        for place in row_places(screen, row) {
+            let protected = cell_at(screen, place).1;
+            out.write_all(if protected { b"#" } else { b"." })?;
+        }
+        out.write_all(b"|\n")?;
     }
     Ok(())
 }

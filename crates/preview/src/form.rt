@@ -5,8 +5,8 @@ use host::carry::carry_out;
 use host::state::State;
 use picture::{fields, frame};
 use screen::interface::Screen;
-use std::io;
 use std::io::Write;
+use std::{fmt, io};
 use stores::map_store::MapStore;
 use stores::size::Size;
 
@@ -14,30 +14,65 @@ use stores::size::Size;
 const LONGEST: usize = 5995;
 
 // Why a file is no host text.
-#[derive(Clone, Copy)]
+#[derive(Clone, Copy, PartialEq, Eq, Debug)]
 pub enum Unfit {
-    // an octet at this place that no text on a line has
-    Octet(u8, usize),
+    // an octet that no text on a line has
+    Octet { code: u8, offset: usize },
     // so many characters, fill left out
     TooLong(usize),
 }
 
-// Whether these are the characters of a text that a line can bring.
-fn fit(text: &[u8]) -> Result<(), Unfit> {
-    let mut kept = 0usize;
-    for (place, code) in text.iter().enumerate() {
-        if *code >= 0x80 || *code == SOH || *code == ETX {
-            return Err(Unfit::Octet(*code, place));
-        }
-        match Class::of(*code) {
-            Class::Fill => {}
-            Class::Framing | Class::Data | Class::Control => kept = kept.saturating_add(1),
+impl fmt::Display for Unfit {
+    fn fmt<W: fmt::Write>(&self, f: &mut fmt::Formatter<W>) -> fmt::Result {
+        match self {
+            Unfit::Octet { code, offset } => write!(
+                f,
+                "the octet {code:02X} at offset {offset} stands in no host text"
+            ),
+            Unfit::TooLong(count) => write!(
+                f,
+                "{count} characters are too many: a message brings a text of at most {LONGEST}"
+            ),
         }
     }
-    if kept > LONGEST {
-        return Err(Unfit::TooLong(kept));
+}
+
+fn is_foreign(code: u8) -> bool {
+    code >= 0x80 || code == SOH || code == ETX
+}
+
+// The characters of a text that a line can bring.
+#[derive(Clone, Copy)]
+pub struct Form<'t>(&'t [u8]);
+
+impl<'t> Form<'t> {
+    pub fn new(text: &'t [u8]) -> Result<Form<'t>, Unfit> {
+        if let Some((offset, code)) = text.iter().enumerate().find(|(_, code)| is_foreign(**code)) {
+            return Err(Unfit::Octet {
+                code: *code,
+                offset,
+            });
+        }
+        let kept = text
+            .iter()
+            .filter(|code| !matches!(Class::of(**code), Class::Fill))
+            .count();
+        if kept > LONGEST {
+            return Err(Unfit::TooLong(kept));
+        }
+        Ok(Form(text))
     }
-    Ok(())
+
+    // Carries the text out on a new screen of this size, and shows it.
+    pub fn show<W: Write>(&self, out: &mut W, size: Size) -> io::Result<()> {
+        let mut screen = MapStore::new(size);
+        let mut state = State::new();
+        let _ = carry_out(&mut screen, &mut state, self.0);
+        frame::framed(out, &screen, state.cursor)?;
+        frame::legend(out)?;
+        status(out, &screen, &state)?;
+        fields::table(out, &screen)
+    }
 }
 
 // What stands beside the cells.
@@ -56,19 +91,4 @@ fn status<S: Screen, W: Write>(out: &mut W, screen: &S, state: &State) -> io::Re
         writeln!(out, "a transmission of {length} characters is held")?;
     }
     Ok(())
-}
-
-// Carries the text out on a new screen of this size, and shows it.
-pub fn preview<W: Write>(out: &mut W, size: Size, text: &[u8]) -> io::Result<Result<(), Unfit>> {
-    if let Err(unfit) = fit(text) {
-        return Ok(Err(unfit));
-    }
-    let mut screen = MapStore::new(size);
-    let mut state = State::new();
-    let _ = carry_out(&mut screen, &mut state, text);
-    frame::framed(out, &screen, state.cursor)?;
-    frame::legend(out)?;
-    status(out, &screen, &state)?;
-    fields::table(out, &screen)?;
-    Ok(Ok(()))
 }

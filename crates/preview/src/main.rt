@@ -1,15 +1,17 @@
 // The form preview: carries host texts out on a screen and shows what they draw.
 #![tactic(auto)]
 
+mod failure;
 mod form;
+mod line;
 mod lines;
 mod pages;
 mod session;
 
-use form::{Unfit, preview};
+use failure::Failure;
+use form::Form;
 use script::number::size;
 use session::run;
-use std::fmt::Display;
 use std::io::{BufWriter, Write};
 use std::process::ExitCode;
 use std::{env, fs};
@@ -31,11 +33,6 @@ the host text in a file on a new screen, 24x80 unless another size is given
   pageread HH ..             read a page into the screen
 Blank lines and everything from # on are skipped.";
 
-fn complain(rt: &HostRuntime, problem: impl Display + Drop) -> Result<(), ()> {
-    let _ = eprintln!(rt; "preview: {problem}");
-    Err(())
-}
-
 // The size that the second argument names, or the largest.
 fn screen_size(named: Option<String>) -> Option<Size> {
     let (rows, columns) = match named {
@@ -46,66 +43,35 @@ fn screen_size(named: Option<String>) -> Option<Size> {
 }
 
 // Shows the form in a file.
-fn show(rt: &HostRuntime, file: String, named: Option<String>) -> Result<(), ()> {
-    let Some(size) = screen_size(named) else {
-        return complain(rt, "refused 14: the size is 12x80, 16x64, 24x64 or 24x80");
-    };
+fn show(rt: &HostRuntime, file: String, named: Option<String>) -> Result<(), Failure> {
+    let size = screen_size(named).ok_or(Failure::NoSize)?;
     let text = match fs::read(rt, file.as_str()) {
         Ok(text) => text,
-        Err(e) => {
-            let _ = eprintln!(rt; "preview: {file}: {e}");
-            return Err(());
-        }
+        Err(e) => return Err(Failure::File(file, e)),
     };
-    let mut out = match BufWriter::new(rt.alloc(), rt.stdout()) {
-        Ok(out) => out,
-        Err(e) => return complain(rt, e),
-    };
-    let result = preview(&mut out, size, text.as_slice());
+    let mut out = BufWriter::new(rt.alloc(), rt.stdout())?;
+    let form = Form::new(text.as_slice())?;
+    let shown = form.show(&mut out, size);
     let flushed = out.flush();
-    match (result, flushed) {
-        (Ok(Ok(())), Ok(())) => Ok(()),
-        (Ok(Err(Unfit::Octet(code, place))), _) => {
-            let _ = eprintln!(rt;
-                "preview: the octet {code:02X} at offset {place} stands in no host text"
-            );
-            Err(())
-        }
-        (Ok(Err(Unfit::TooLong(count))), _) => {
-            let _ = eprintln!(rt;
-                "preview: {count} characters are too many: a message brings a text of at most 5995"
-            );
-            Err(())
-        }
-        (Err(e), _) => complain(rt, e),
-        (_, Err(e)) => complain(rt, e),
-    }
+    Ok(shown.and(flushed)?)
 }
 
 // Runs the script on standard input.
-fn script(rt: &HostRuntime) -> Result<(), ()> {
-    let out = match BufWriter::new(rt.alloc(), rt.stdout()) {
-        Ok(out) => out,
-        Err(e) => return complain(rt, e),
-    };
-    match run(rt.alloc(), rt.stdin(), out) {
-        Ok(()) => Ok(()),
-        Err(e) => complain(rt, e),
-    }
+fn script(rt: &HostRuntime) -> Result<(), Failure> {
+    let out = BufWriter::new(rt.alloc(), rt.stdout())?;
+    Ok(run(rt.alloc(), rt.stdin(), out)?)
 }
 
-// Does what the arguments ask for; an Err where something went wrong, which standard error then tells.
-fn answer(rt: &HostRuntime) -> Result<(), ()> {
-    let Ok(mut args) = env::args(rt) else {
-        return complain(rt, "the arguments are no text");
-    };
+// Does what the arguments ask for.
+fn answer(rt: &HostRuntime) -> Result<(), Failure> {
+    let mut args = env::args(rt).map_err(|_| Failure::NoArguments)?;
     let _ = args.next();
     let Some(file) = args.next() else {
         return script(rt);
     };
     let named = args.next();
     if args.next().is_some() {
-        return complain(rt, USAGE);
+        return Err(Failure::Usage(USAGE));
     }
     if file.as_str() == "--help" {
         let _ = rt.println(USAGE);
@@ -117,6 +83,9 @@ fn answer(rt: &HostRuntime) -> Result<(), ()> {
 fn main(rt: HostRuntime) -> ExitCode {
     match answer(&rt) {
         Ok(()) => ExitCode::SUCCESS,
-        Err(()) => ExitCode::FAILURE,
+        Err(failure) => {
+            let _ = eprintln!(rt; "preview: {failure}");
+            ExitCode::FAILURE
+        }
     }
 }

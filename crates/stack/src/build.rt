@@ -1,8 +1,12 @@
 // Builds a stack, and has it visited.
-use crate::choice::{Layer, Stack, Store};
+ghost use Rattle.std.specs.Prelude.{◌≡◌};
+ghost use Rattle.stack.specs.declared.build.BuildError.TheVariants.{Refused, OutOfMemory};
+
+use crate::choice::{Dimensions, Layer, Stack, Store};
 use crate::lowest::Stacked;
 use screen::refusal::Refusal;
 use std::alloc::{AllocError, Global};
+use std::marker::PhantomData;
 use stores::map_store::MapStore;
 use stores::size::Size;
 use stores::word_store::WordStore;
@@ -13,113 +17,111 @@ use window::window::Window;
 // A store never touches words further on, so an area of more need not be made.
 const MOST_WORDS: usize = 4096;
 
-// What is done with a screen, whatever stack it is.
+// What is done with a screen, whatever stack it is, and what that answers.
 pub trait Visitor {
-    fn visit<S: Stacked>(&mut self, screen: &mut S);
+    type Answer;
+
+    fn visit<S: Stacked>(&mut self, screen: &mut S) -> Self::Answer;
 }
 
-// The layers that are left stand over the screen, one by one, and the outermost is visited.
-macro_rules! over {
-    ($screen:expr, $stack:expr, $left:expr, $visitor:expr, $next:path) => {{
-        if $left == 0 {
-            $visitor.visit($screen);
-            return Ok(());
-        }
-        match $stack.layer($left - 1) {
-            Some(Layer::Turning) => $next(&mut Turning::new($screen), $stack, $left - 1, $visitor),
-            Some(Layer::Window(rows, columns)) => {
-                let extent = Extent::within($screen, rows, columns)?;
-                $next(&mut Window::new($screen, extent), $stack, $left - 1, $visitor)
+// Why a stack cannot be built.
+#[derive(Clone, Copy, PartialEq, Eq, Debug)]
+pub enum BuildError {
+    Refused(Refusal),
+    OutOfMemory,
+}
+
+impl From<Refusal> for BuildError {
+    ghost from_gives = { λ refusal e. e ≡ Refused refusal };
+
+    fn from(refusal: Refusal) -> BuildError {
+        BuildError::Refused(refusal)
+    }
+}
+
+impl From<AllocError> for BuildError {
+    ghost from_gives = { λ _ e. e ≡ OutOfMemory };
+
+    fn from(_e: AllocError) -> BuildError {
+        BuildError::OutOfMemory
+    }
+}
+
+// Room for so many layers over a screen. Each level of a stack has a type of its own, so the types count the levels.
+trait Room {
+    // The layers stand over the screen, the innermost first, and the outermost is visited.
+    fn over<S: Stacked, V: Visitor>(
+        screen: &mut S,
+        layers: &[Layer],
+        visitor: &mut V,
+    ) -> Result<V::Answer, Refusal>;
+}
+
+struct Full;
+
+struct OneMore<N>(PhantomData<N>);
+
+impl Room for Full {
+    fn over<S: Stacked, V: Visitor>(
+        screen: &mut S,
+        _layers: &[Layer],
+        visitor: &mut V,
+    ) -> Result<V::Answer, Refusal> {
+        Ok(visitor.visit(screen))
+    }
+}
+
+impl<N: Room> Room for OneMore<N> {
+    fn over<S: Stacked, V: Visitor>(
+        screen: &mut S,
+        layers: &[Layer],
+        visitor: &mut V,
+    ) -> Result<V::Answer, Refusal> {
+        match layers.split_last() {
+            None => Ok(visitor.visit(screen)),
+            Some((Layer::Turning, outer)) => N::over(&mut Turning::new(screen), outer, visitor),
+            Some((Layer::Window(size), outer)) => {
+                let extent = Extent::within(screen, size.rows, size.columns)?;
+                N::over(&mut Window::new(screen, extent), outer, visitor)
             }
-            None => Ok(()),
         }
-    }};
+    }
 }
 
-// Each level of a stack has a type of its own, so each is a function of its own.
-fn first<S: Stacked, V: Visitor>(
-    screen: &mut S,
-    stack: &Stack,
-    left: usize,
-    visitor: &mut V,
-) -> Result<(), Refusal> {
-    over!(screen, stack, left, visitor, second)
-}
-
-fn second<S: Stacked, V: Visitor>(
-    screen: &mut S,
-    stack: &Stack,
-    left: usize,
-    visitor: &mut V,
-) -> Result<(), Refusal> {
-    over!(screen, stack, left, visitor, third)
-}
-
-fn third<S: Stacked, V: Visitor>(
-    screen: &mut S,
-    stack: &Stack,
-    left: usize,
-    visitor: &mut V,
-) -> Result<(), Refusal> {
-    over!(screen, stack, left, visitor, fourth)
-}
-
-fn fourth<S: Stacked, V: Visitor>(
-    screen: &mut S,
-    stack: &Stack,
-    left: usize,
-    visitor: &mut V,
-) -> Result<(), Refusal> {
-    over!(screen, stack, left, visitor, last)
-}
-
-fn last<S: Stacked, V: Visitor>(
-    screen: &mut S,
-    _stack: &Stack,
-    _left: usize,
-    visitor: &mut V,
-) -> Result<(), Refusal> {
-    visitor.visit(screen);
-    Ok(())
-}
+// As many as a stack has at most.
+type Layers = OneMore<OneMore<OneMore<OneMore<Full>>>>;
 
 fn over_words<V: Visitor>(
     area: &mut [u16],
-    rows: usize,
-    columns: usize,
-    stack: &Stack,
+    size: Dimensions,
+    layers: &[Layer],
     visitor: &mut V,
-) -> Result<(), Refusal> {
-    let size = Size::in_area(area, rows, columns)?;
-    first(
-        &mut WordStore::new(area, size),
-        stack,
-        stack.depth(),
-        visitor,
-    )
+) -> Result<V::Answer, Refusal> {
+    let size = Size::in_area(area, size.rows, size.columns)?;
+    Layers::over(&mut WordStore::new(area, size), layers, visitor)
 }
 
 fn over_bits<V: Visitor>(
-    rows: usize,
-    columns: usize,
-    stack: &Stack,
+    size: Dimensions,
+    layers: &[Layer],
     visitor: &mut V,
-) -> Result<(), Refusal> {
-    let size = Size::new(rows, columns)?;
-    first(&mut MapStore::new(size), stack, stack.depth(), visitor)
+) -> Result<V::Answer, Refusal> {
+    let size = Size::new(size.rows, size.columns)?;
+    Layers::over(&mut MapStore::new(size), layers, visitor)
 }
 
-// Builds the stack and has its outermost screen visited; the inner refusal says why it cannot be built.
+// Builds the stack and has its outermost screen visited.
 pub fn build<V: Visitor>(
     heap: Global,
     stack: &Stack,
     visitor: &mut V,
-) -> Result<Result<(), Refusal>, AllocError> {
+) -> Result<V::Answer, BuildError> {
+    let layers = stack.layers.as_slice();
     match stack.store {
-        Store::Words(rows, columns, words) => {
-            let mut area = vec![in heap; 0u16; words.min(MOST_WORDS)]?;
-            Ok(over_words(&mut area, rows, columns, stack, visitor))
+        Store::Words { size, area } => {
+            let mut words = vec![in heap; 0u16; area.min(MOST_WORDS)]?;
+            Ok(over_words(&mut words, size, layers, visitor)?)
         }
-        Store::Bits(rows, columns) => Ok(over_bits(rows, columns, stack, visitor)),
+        Store::Bits(size) => Ok(over_bits(size, layers, visitor)?),
     }
 }

@@ -1,71 +1,57 @@
-// The store under a stack, read through its layers.
+// The store under a stack, seen through its layers.
+ghost use Rattle.std.specs.Prelude.{◌≡◌};
+
 use screen::interface::Screen;
-use screen::refusal::Refusal;
 use stores::map_store::MapStore;
 use stores::word_store::WordStore;
 use turning::turning::Turning;
 use window::window::Window;
 
 pub trait Stacked: Screen {
-    fn lowest_rows(&self) -> usize;
+    type Lowest: Screen;
 
-    fn lowest_columns(&self) -> usize;
+    ghost store: { Self → Self.Lowest };
 
-    fn lowest_read(&self, place: usize) -> Result<(u8, bool), Refusal>;
+    fn lowest(&self) -> &Self::Lowest
+        ensures { result.now ≡ store self.now };
 }
 
 impl Stacked for MapStore {
-    fn lowest_rows(&self) -> usize {
-        self.rows()
-    }
+    type Lowest = MapStore;
 
-    fn lowest_columns(&self) -> usize {
-        self.columns()
-    }
+    ghost store = { λ s. s };
 
-    fn lowest_read(&self, place: usize) -> Result<(u8, bool), Refusal> {
-        self.read(place)
+    fn lowest(&self) -> &MapStore {
+        self
     }
 }
 
 impl<'a> Stacked for WordStore<'a> {
-    fn lowest_rows(&self) -> usize {
-        self.rows()
-    }
+    type Lowest = WordStore<'a>;
 
-    fn lowest_columns(&self) -> usize {
-        self.columns()
-    }
+    ghost store = { λ s. s };
 
-    fn lowest_read(&self, place: usize) -> Result<(u8, bool), Refusal> {
-        self.read(place)
+    fn lowest(&self) -> &WordStore<'a> {
+        self
     }
 }
 
 impl<'s, S: Stacked> Stacked for Turning<'s, S> {
-    fn lowest_rows(&self) -> usize {
-        self.below().lowest_rows()
-    }
+    type Lowest = S::Lowest;
 
-    fn lowest_columns(&self) -> usize {
-        self.below().lowest_columns()
-    }
+    ghost store = { λ s. S.Stacked.store s.below.now };
 
-    fn lowest_read(&self, place: usize) -> Result<(u8, bool), Refusal> {
-        self.below().lowest_read(place)
+    fn lowest(&self) -> &S::Lowest {
+        self.below().lowest()
     }
 }
 
 impl<'s, S: Stacked> Stacked for Window<'s, S> {
-    fn lowest_rows(&self) -> usize {
-        self.below().lowest_rows()
-    }
+    type Lowest = S::Lowest;
 
-    fn lowest_columns(&self) -> usize {
-        self.below().lowest_columns()
-    }
+    ghost store = { λ s. S.Stacked.store s.below.now };
 
-    fn lowest_read(&self, place: usize) -> Result<(u8, bool), Refusal> {
-        self.below().lowest_read(place)
+    fn lowest(&self) -> &S::Lowest {
+        self.below().lowest()
     }
 }

@@ -1,5 +1,6 @@
 // A stack as a script names it: words RxC [N], bits RxC, turn SCREEN or window RxC SCREEN.
-use crate::choice::{Layer, Stack, Store};
+use crate::choice::{Dimensions, Layer, Stack, Store};
+use arrayvec::ArrayVec;
 use script::error::{Problem, RunError};
 use script::number::number;
 use script::words::{Token, Words};
@@ -13,51 +14,55 @@ pub fn stack<R: Read>(words: &mut Words<R>) -> Result<Stack, RunError> {
 
 // The stack that begins at the last word.
 pub fn stack_here<R: Read>(words: &mut Words<R>) -> Result<Stack, RunError> {
-    let mut stack = Stack::new(Store::Bits(0, 0));
-    for _ in 0..u64::MAX {
-        let layer = match words.word().bytes() {
-            b"words" => {
-                stack.store = word_store(words)?;
-                return Ok(stack);
-            }
-            b"bits" => {
-                let (rows, columns) = words.next_size()?;
-                stack.store = Store::Bits(rows, columns);
-                words.end_line()?;
-                return Ok(stack);
-            }
-            b"turn" => Layer::Turning,
-            b"window" => window(words)?,
-            _ => return Err(words.error(Problem::NoScreenKind)),
-        };
-        if !stack.push(layer) {
+    let mut layers = ArrayVec::new();
+    while let Some(layer) = layer(words)? {
+        if layers.try_push(layer).is_err() {
             return Err(words.error(Problem::TooManyLayers));
         }
         words.next()?;
     }
-    Ok(stack)
+    let store = store(words)?;
+    Ok(Stack { store, layers })
 }
 
-fn window<R: Read>(words: &mut Words<R>) -> Result<Layer, RunError> {
+// The next word, which is to be a size.
+fn size<R: Read>(words: &mut Words<R>) -> Result<Dimensions, RunError> {
     let (rows, columns) = words.next_size()?;
-    Ok(Layer::Window(rows, columns))
+    Ok(Dimensions { rows, columns })
 }
 
-// The size, and then the words of the area, or as many as the cells want; the line ends there.
-fn word_store<R: Read>(words: &mut Words<R>) -> Result<Store, RunError> {
-    let (rows, columns) = words.next_size()?;
-    match words.next()? {
-        Token::Word => match number(words.word().bytes()) {
-            Some(area) => {
-                words.end_line()?;
-                Ok(Store::Words(rows, columns, area))
-            }
-            None => Err(words.error(Problem::NoNumber)),
-        },
-        Token::LineEnd | Token::End => Ok(Store::Words(
-            rows,
-            columns,
-            rows.saturating_mul(columns),
-        )),
+// The layer that begins at the last word, if one does.
+fn layer<R: Read>(words: &mut Words<R>) -> Result<Option<Layer>, RunError> {
+    match words.word().bytes() {
+        b"turn" => Ok(Some(Layer::Turning)),
+        b"window" => Ok(Some(Layer::Window(size(words)?))),
+        _ => Ok(None),
     }
+}
+
+// The store that begins at the last word; the line ends with it.
+fn store<R: Read>(words: &mut Words<R>) -> Result<Store, RunError> {
+    match words.word().bytes() {
+        b"words" => word_store(words),
+        b"bits" => {
+            let size = size(words)?;
+            words.end_line()?;
+            Ok(Store::Bits(size))
+        }
+        _ => Err(words.error(Problem::NoScreenKind)),
+    }
+}
+
+// The size, and then the words of the area, or as many as the cells want.
+fn word_store<R: Read>(words: &mut Words<R>) -> Result<Store, RunError> {
+    let size = size(words)?;
+    let area = match words.next()? {
+        Token::Word => {
+            let area = number(words.word().bytes()).ok_or(words.error(Problem::NoNumber))?;
+            words.end_line()?;
+            area
+        }
+        Token::LineEnd | Token::End => size.rows.saturating_mul(size.columns),
+    };
+    Ok(Store::Words { size, area })
 }
