@@ -3,7 +3,7 @@
 #![tactic(auto)]
 
 use codes::{ESC, HT, SI, SO, SPACE, VT};
-use edit::cell::cell_at;
+use edit::cell::{cell_at, cell_count};
 use host::carry::carry_out;
 use host::state::State;
 use screen::interface::Screen;
@@ -15,42 +15,30 @@ use stores::size::Size;
 // Each row has a caption, a protected tab stop, and a field filled with letters.
 fn form(heap: Global) -> Result<Vec<u8>, AllocError> {
     let mut text = Vec::new(heap);
-    text.push(ESC)?;
-    text.push(b'M')?;
+    text.extend_from_slice(&[ESC, b'M'])?;
     for row in 0..24u8 {
-        for code in [ESC, VT, SPACE + row, SPACE, SI, SO] {
-            text.push(code)?;
-        }
-        for column in 0..19u8 {
-            text.push(b'A' + (row + column) % 26)?;
-        }
-        for code in [ESC, HT, SI] {
-            text.push(code)?;
-        }
-        for column in 0..60u8 {
-            text.push(b'a' + (row + column) % 26)?;
-        }
+        text.extend_from_slice(&[ESC, VT, SPACE + row, SPACE, SI, SO])?;
+        text.extend((0..19u8).map(|column| b'A' + (row + column) % 26))?;
+        text.extend_from_slice(&[ESC, HT, SI])?;
+        text.extend((0..60u8).map(|column| b'a' + (row + column) % 26))?;
     }
     Ok(text)
 }
 
 fn cell_sum<S: Screen>(screen: &S) -> u64 {
-    let mut sum = 0u64;
-    for place in 0..1920 {
+    (0..cell_count(screen)).fold(0u64, |sum, place| {
         let (code, protected) = cell_at(screen, place);
-        sum = sum
-            .wrapping_mul(31)
-            .wrapping_add(code as u64 + u64::from(protected));
-    }
-    sum
+        sum.wrapping_mul(31)
+            .wrapping_add(u64::from(code) + u64::from(protected))
+    })
 }
 
 fn main(rt: HostRuntime) -> io::Result<()> {
     let text = form(rt.alloc())?;
-    let mut rounds = 3u32;
-    for word in env::args(&rt)? {
-        rounds = word.as_str().parse::<u32>().unwrap_or(rounds);
-    }
+    let rounds = env::args(&rt)?
+        .filter_map(|word| word.as_str().parse::<u32>().ok())
+        .last()
+        .unwrap_or(3);
     if let Ok(size) = Size::new(24, 80) {
         let mut store = MapStore::new(size);
         let mut state = State::new();
