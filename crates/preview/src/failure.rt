@@ -11,6 +11,7 @@ pub enum Failure {
     File(String, io::Error),
     Unfit(Unfit),
     Run(RunError),
+    Io(io::Error),
 }
 
 impl From<Unfit> for Failure {
@@ -27,7 +28,7 @@ impl From<RunError> for Failure {
 
 impl From<io::Error> for Failure {
     fn from(e: io::Error) -> Failure {
-        Failure::Run(RunError::Io(e))
+        Failure::Io(e)
     }
 }
 
@@ -40,6 +41,7 @@ impl fmt::Display for Failure {
             Failure::File(name, e) => write!(f, "{name}: {e}"),
             Failure::Unfit(unfit) => write!(f, "{unfit}"),
             Failure::Run(e) => write!(f, "{e}"),
+            Failure::Io(e) => write!(f, "{e}"),
         }
     }
 }

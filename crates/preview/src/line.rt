@@ -1,7 +1,6 @@
-// What a line of a script asks for.
+// What a line of a script asks of a screen.
 #[derive(Clone, Copy)]
 pub enum Line {
-    Screen,
     Text,
     Read,
     Write,
@@ -17,7 +16,6 @@ impl Line {
     // The line that begins with this word.
     pub fn named(word: &[u8]) -> Option<Line> {
         Some(match word {
-            b"screen" => Line::Screen,
             b"text" => Line::Text,
             b"read" => Line::Read,
             b"write" => Line::Write,

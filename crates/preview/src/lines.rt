@@ -40,7 +40,6 @@ impl<'s, S: Stacked> OnScreen<'s, S> {
             Line::Below => self.below(session),
             Line::PageWrite => self.write_page(session),
             Line::PageRead => self.read_page(session),
-            Line::Screen => Err(session.words.error(Problem::UnknownLine)),
         }
     }
 

@@ -38,7 +38,7 @@ enum NoScreen {
     Refused,
 }
 
-// After a refused screen the lines print nothing, before any they are wrong.
+// Page lines are then unknown; the others are wrong before the first screen, and print nothing after a refused one.
 impl Taker for NoScreen {
     fn take<R: Read, W: Write>(
         &mut self,
@@ -97,17 +97,24 @@ impl<R: Read, W: Write> Session<R, W> {
             match self.words.next()? {
                 Token::LineEnd => {}
                 Token::End => break,
-                Token::Word => match Line::named(self.words.word().bytes()) {
-                    None => return Err(self.words.error(Problem::UnknownLine)),
-                    Some(Line::Screen) => return Ok(Some(parse::stack(&mut self.words)?)),
-                    Some(line) => taker.take(self, line)?,
+                Token::Word => match self.words.word().bytes() {
+                    b"screen" => return Ok(Some(parse::stack(&mut self.words)?)),
+                    _ => {
+                        let line = self.line()?;
+                        taker.take(self, line)?;
+                    }
                 },
             }
         }
         Ok(None)
     }
 
-    // A number that ends its line; the answer begins with the line as it stands.
+    // The line that begins with the last word.
+    fn line(&self) -> Result<Line, RunError> {
+        Line::named(self.words.word().bytes()).ok_or(self.words.error(Problem::UnknownLine))
+    }
+
+    // The number that ends a line; the answer begins by repeating both.
     pub fn last_number(&mut self, line: &str) -> Result<usize, RunError> {
         let number = self.words.next_number()?;
         let named = *self.words.word();
