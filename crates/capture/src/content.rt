@@ -31,9 +31,7 @@ impl<'a> Reply<'a> {
             [DLE, ENQ, ETX] => Some(Reply::Enquiry),
             [call, ETX] if is_call(*call) => Some(Reply::Call(*call)),
             [DLE, ACKNOWLEDGE, call, ETX] if is_call(*call) => Some(Reply::AcknowledgedCall(*call)),
-            [DLE, ACKNOWLEDGE, STX, .., ETX] => Some(Reply::AcknowledgedText(
-                &tail[3..tail.len() - 1],
-            )),
+            [DLE, ACKNOWLEDGE, STX, text @ .., ETX] => Some(Reply::AcknowledgedText(text)),
             _ => None,
         }
     }

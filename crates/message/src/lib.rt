@@ -37,7 +37,7 @@ impl<'a> Form<'a> {
             [ETX] => Some(Form::Poll),
             [DLE, ACKNOWLEDGE, ETX] => Some(Form::PollAcknowledge),
             [DLE, NAK, ETX] => Some(Form::Repeat),
-            [STX, .., ETX] => Some(Form::Text(&tail[1..tail.len() - 1])),
+            [STX, text @ .., ETX] => Some(Form::Text(text)),
             _ => None,
         }
     }
