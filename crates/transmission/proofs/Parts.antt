@@ -124,11 +124,6 @@ stretch_row kind v w s r o e h f l =
     ∙ ap (λ k. rows_sent kind w cs p (p / w - t / w) (k * w) (row_sends kind (between s (k * w) cs) o)) f
     ∙ ap (λ x. rows_sent kind x cs p (p / x - t / x) t (row_sends kind (between s t cs) o)) e
 
-pub stretch_end : (kind : Kind) (v : View) (w s : ℕ) (o : Sent) → w ≡ v.grid.columns → v.cursor / w ≤ s / w → stretch kind v s o ≡ sends kind (between s (v.cursor + 1) v.grid.cells) o
-stretch_end kind v w s o e l =
-    let n : v.cursor / w - s / w ≡ 0 = omega arith in
-    ap (λ x. rows_sent kind x v.grid.cells v.cursor (v.cursor / x - s / x) s o) (sym e) ∙ ap (λ k. rows_sent kind w v.grid.cells v.cursor k s o) n
-
 -- how many rows there are
 pub row_small : (g : Grid) (w s : ℕ) → Sound g → w ≡ g.columns → s < size g → s / w < 24
 row_small g w s ok e l =

@@ -88,6 +88,7 @@ impl HeldText {
     }
 
     // Sends the cells from the first through the cursor's, row by row.
+    #[tactic(auto, using(edit::proofs::Sizes::size_most, crate::proofs::Parts::row_after, crate::proofs::Parts::row_before))]
     fn put_stretch<S: Screen>(&mut self, screen: &S, first: usize, cursor: usize, kind: Kind)
         requires { (first ≤ cursor) × ((cursor < size (S.grid screen.now)) × (self.old.len ≡ 5)) }
         ensures sent { sent_of self.new ≡ stretch kind (view (S.grid screen.now) cursor) first (sent_of self.old) }

@@ -1,21 +1,9 @@
 use Rattle.std.proofs.Common.{◌*◌, ◌<◌, sym, ap, ◌∙◌, arith}
 use Rattle.edit.specs.View.{view}
-use Rattle.edit.proofs.Sizes.{size_most}
 use Rattle.transmission.specs.Text.{stretch}
 use Rattle.transmission.specs.Held.{sent_of}
 use Rattle.transmission.proofs.Parts.{row_after, row_before, row_next, stretch_row}
 use Rattle.transmission.proofs.held.HeldText.put_stretch.Goals as goal
-
-pub put_row-requires : goal.put_row-requires
-put_row-requires g c =
-    let s = c.args.screen.now in
-    let ok = g.S.Screen.sound s in
-    let w = c.columns-columns.result in
-    let one : 0 < w = omega (arith, ok.column_least) in
-    let after = row_after w c.loop-row.from c.loop-row.row one c.loop-row.invariant.row in
-    let before = row_before w c.args.cursor c.loop-row.row one (omega arith) in
-    let most = size_most (g.S.Screen.grid s) ok in
-    (omega arith, (omega (arith, c.requires), omega (arith, c.requires)))
 
 pub loop-row-preserved : goal.loop-row-preserved
 loop-row-preserved g c =
