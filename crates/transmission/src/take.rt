@@ -13,6 +13,7 @@ use edit::cell::{cell_at, on_screen};
 use screen::interface::Screen;
 
 // The nearest start of entry at or before the cursor, or place 0.
+#[tactic(auto, using(crate::proofs::Parts::start_at_back, crate::proofs::Parts::start_at_here))]
 fn start_at<S: Screen>(screen: &S, cursor: usize) -> usize
     ensures place { result ≡ start_at (S.grid screen.now).cells cursor }
     ensures before { result ≤ cursor }
