@@ -13,6 +13,7 @@ use screen::interface::Screen;
 use text::reader::Reader;
 
 // Carries out the steps of a text, with what it writes protected or not at first.
+#[tactic(auto, using(crate::proofs::Steps::at_view))]
 fn carry_steps<S: Screen>(screen: &mut S, state: &mut State, protected: bool, text: &[u8])
     requires { state.old.cursor < size (S.grid screen.old) }
     ensures rest { S.rest screen.new ≡ S.rest screen.old }

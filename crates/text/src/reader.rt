@@ -46,6 +46,7 @@ fn address_step<'a>(after: &[u8]) -> (Step<'a>, usize)
 }
 
 // The first step of what is left of a text at a place, and how many characters it takes.
+#[tactic(auto, using(crate::proofs::Pieces::steps_address, crate::proofs::Pieces::steps_run, std::proofs::lemmas::List::take_all))]
 fn first_step<'a>(rest: &'a [u8], place: usize) -> Option<(Step<'a>, usize)>
     ensures none { IfNone result (rest.now ≡ []) }
     ensures within { IfSome result (λ s. s.1 ≤ length rest.now) }

@@ -3,7 +3,7 @@ use Rattle.text.specs.Shown.{shown, unread}
 use Rattle.host.specs.Drawing.{drawn, drawn_all, protects}
 use Rattle.edit.specs.View.{at}
 use Rattle.std.proofs.Math.Bool.{or_assoc}
-use Rattle.host.proofs.Steps.{at_view, drawn_step, option_or_assoc}
+use Rattle.host.proofs.Steps.{drawn_step, option_or_assoc}
 use Rattle.host.proofs.carry.carry_steps.Goals as goal
 
 pub loop-step-preserved : goal.loop-step-preserved
@@ -24,9 +24,3 @@ loop-step-preserved g c =
       light = search (rules, or_assoc);
       held = search (rules, option_or_assoc);
     }
-
-pub returns-clause-view : goal.returns-clause-view
-returns-clause-view g c =
-    let here = g.S.Screen.grid c.loop-step.screen in
-    let i = c.loop-step.invariant in
-    sym (at_view here c.loop-step.state.cursor i.on) ∙ ap (λ x. drawn_all c.loop-step.mark x (at here c.loop-step.state.cursor)) (sym c.in-None.ensures.steps.0) ∙ i.view
