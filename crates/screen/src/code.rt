@@ -4,10 +4,9 @@ ghost use Rattle.screen.specs.Cells.{storable};
 use codes::{FS, GS, HT, RS};
 
 // Whether a cell can hold the character.
+#[tactic(auto, unfolding(crate::specs::Cells::storable))]
 pub fn is_storable(code: u8) -> bool
     ensures { result ≡ storable code }
 {
-    let data = (0x20 <= code) & (code <= 0x7e);
-    let separator = (code == FS) | (code == GS) | (code == RS);
-    data | (code == HT) | separator
+    matches!(code, 0x20..=0x7e | HT | FS | GS | RS)
 }
