@@ -2,15 +2,14 @@
 use Rattle.std.proofs.Common.{◌≡◌, ℕ, ◌+◌, ◌-◌, ◌*◌, ◌<◌, ◌≤◌, Bool, true, false, ◌&&◌, ltb, List, length, get_or, drop, set, replicate, Ok, sym, refl, ap, ◌∙◌, arith, rules}
 use lib.Seq.{paste}
 use Rattle.std.proofs.lemmas.Bool.{ltb-true, lt-ltb, and_from, and_parts, cond-true, cond_both}
-use Rattle.std.proofs.lemmas.List.{places, length-set, get_or-set_same, get_or-set_other}
-use Rattle.std.proofs.lemmas.List.Edits.{paste_none, fill_from_more}
+use Rattle.std.proofs.lemmas.List.{places, same_lists, length-set, get_or-set_same, get_or-set_other}
 use Rattle.codes.specs.Ascii.{SPACE}
 use Rattle.screen.specs.Cells.{Cell, cell, blank, storable}
 use Rattle.screen.specs.Rows.{clear_row, remove_row, insert_row}
 use Rattle.screen.specs.Grid.{Grid, Sound, with_cells, has_place, has_row, writable, written, copied, cleared, removed, inserted}
 use Rattle.screen.specs.Answers.{on_screen, done_if, parts, read_at}
 use Rattle.screen.proofs.Cells.{space_storable}
-use Rattle.screen.proofs.Rows.{rows_apart, rows_after, up_more, down_more, up_all, down_all}
+use Rattle.screen.proofs.Rows.{rows_apart, last_row, fill_more, up_more, down_more, up_all, down_all}
 
 pub has_this_place : (g : Grid) (p : ℕ) → p < length g.cells → has_place g p ≡ true
 has_this_place g p l = lt-ltb p (length g.cells) l
@@ -51,8 +50,10 @@ copy_done g to from a b = sym (ap done_if (and_from _ _ (has_this_place g from b
 pub row_fits : (g : Grid) (r w : ℕ) → Sound g → w ≡ g.columns → r < g.rows → r * w + w ≤ length g.cells
 row_fits g r w s e l = omega (arith, rows_apart r g.rows w l, ap (λ x. g.rows * x) e, s.filled)
 
-pub rows_fit : (g : Grid) (r h w : ℕ) → Sound g → r < h → h ≡ g.rows → w ≡ g.columns → r * w + w + (h - 1 - r) * w ≡ length g.cells
-rows_fit g r h w s l eh ew = rows_after r h w l ∙ ap (λ x. x * w) eh ∙ ap (λ x. g.rows * x) ew ∙ sym s.filled
+pub rows_fit : (g : Grid) (r h w : ℕ) → Sound g → r < h → h ≡ g.rows → w ≡ g.columns → (r * w ≤ (h - 1) * w) × ((h - 1) * w + w ≡ length g.cells)
+rows_fit g r h w s l eh ew =
+    let last = last_row h w (omega arith) in
+    (omega (arith, rows_apart r h w l), last ∙ ap (λ x. x * w) eh ∙ ap (λ x. g.rows * x) ew ∙ sym s.filled)
 
 -- a row on a screen of n rows, and another
 pub rows_on : (g : Grid) (n q r : ℕ) → n ≡ g.rows → q < g.rows → r < g.rows → ltb q n ≡ has_row g r
@@ -71,51 +72,52 @@ removes g r l = ap (with_cells g) (cond-true (has_row g r) _ _ (lt-ltb r g.rows 
 pub inserts : (g : Grid) (r : ℕ) → r < g.rows → inserted g r ≡ with_cells g (insert_row blank g.columns r g.cells)
 inserts g r l = ap (with_cells g) (cond-true (has_row g r) _ _ (lt-ltb r g.rows l))
 
--- i cells from `at` on cleared; as many moved up by w; and those from the place i of n on moved down by w
+-- the cells from `at` up to `to` cleared; those moved up by w; and those from `from` up to `last` moved down by w
 abbrev pub clearing : Grid → ℕ → ℕ → Grid
-clearing g at i = with_cells g (paste g.cells at (replicate i blank) i)
+clearing g at to = with_cells g (paste g.cells at (replicate (to - at) blank) (to - at))
 
 abbrev pub lifting : Grid → ℕ → ℕ → ℕ → Grid
-lifting g at w i = with_cells g (paste g.cells at (drop (at + w) g.cells) i)
+lifting g at w to = with_cells g (paste g.cells at (drop (at + w) g.cells) (to - at))
 
-abbrev pub lowering : Grid → ℕ → ℕ → ℕ → ℕ → Grid
-lowering g at w n i = with_cells g (paste g.cells (at + w + i) (drop (at + i) g.cells) (n - i))
+abbrev pub lowering : Grid → ℕ → ℕ → ℕ → Grid
+lowering g w last from = with_cells g (paste g.cells (from + w) (drop from g.cells) (last - from))
 
 -- none yet, one more, and all: v is the screen's grid then
-pub clear_none : (g : Grid) (at : ℕ) → g ≡ clearing g at 0
-clear_none g at = ap (with_cells g) (paste_none g.cells at (replicate 0 blank))
+pub clear_none : (g : Grid) (at : ℕ) → g ≡ clearing g at at
+clear_none g at = ap (with_cells g) (same_lists _ _ (search (rules, places)) (λ k d b. grind (arith, places)))
 
-pub clear_more : (g v : Grid) (at i : ℕ) → at + i < length g.cells → v ≡ clearing g at i → written v (at + i) SPACE false ≡ clearing g at (i + 1)
-clear_more g v at i l e =
-    let cs = paste g.cells at (replicate i blank) i in
-    let room : at + i < length cs = search (rules, places) in
-    ap (λ x. written x (at + i) SPACE false) e
-    ∙ writes (with_cells g cs) (at + i) SPACE false room space_storable
-    ∙ ap (with_cells g) (fill_from_more g.cells at i blank l)
+pub clear_more : (g v : Grid) (at to : ℕ) → at ≤ to → to < length g.cells → v ≡ clearing g at to → written v to SPACE false ≡ clearing g at (to + 1)
+clear_more g v at to b l e =
+    let cs = paste g.cells at (replicate (to - at) blank) (to - at) in
+    let room : to < length cs = search (rules, places) in
+    ap (λ x. written x to SPACE false) e
+    ∙ writes (with_cells g cs) to SPACE false room space_storable
+    ∙ ap (with_cells g) (fill_more g.cells at to blank b l)
 
-pub clear_all : (g v : Grid) (r w i : ℕ) → r < g.rows → w ≡ g.columns → i ≡ w → v ≡ clearing g (r * w) i → v ≡ cleared g r
+pub clear_all : (g v : Grid) (r w to : ℕ) → r < g.rows → w ≡ g.columns → to ≡ r * w + w → v ≡ clearing g (r * w) to → v ≡ cleared g r
 unfolding clear_row
-clear_all g v r w i l e f h =
+clear_all g v r w to l e f h =
+    let all : to - r * w ≡ w = omega arith in
     h
-    ∙ ap (clearing g (r * w)) f
-    ∙ ap (λ x. clearing g (r * x) x) e
+    ∙ ap (λ x. with_cells g (paste g.cells (r * w) (replicate x blank) x)) all
+    ∙ ap (λ x. with_cells g (paste g.cells (r * x) (replicate x blank) x)) e
     ∙ sym (clears g r l)
 
-pub lift_none : (g : Grid) (at w : ℕ) → g ≡ lifting g at w 0
-lift_none g at w = ap (with_cells g) (paste_none g.cells at (drop (at + w) g.cells))
+pub lift_none : (g : Grid) (at w : ℕ) → g ≡ lifting g at w at
+lift_none g at w = ap (with_cells g) (same_lists _ _ (search (rules, places)) (λ k d b. grind (arith, places)))
 
-pub lift_more : (g v : Grid) (at w i : ℕ) → at + w + i < length g.cells → v ≡ lifting g at w i → copied v (at + i) (at + w + i) ≡ lifting g at w (i + 1)
-lift_more g v at w i l e =
-    let cs = paste g.cells at (drop (at + w) g.cells) i in
+pub lift_more : (g v : Grid) (at w to : ℕ) → at ≤ to → to + w < length g.cells → v ≡ lifting g at w to → copied v to (to + w) ≡ lifting g at w (to + 1)
+lift_more g v at w to b l e =
+    let cs = paste g.cells at (drop (at + w) g.cells) (to - at) in
     let long : length cs ≡ length g.cells = search (rules, places) in
-    ap (λ x. copied x (at + i) (at + w + i)) e
-    ∙ copies (with_cells g cs) (at + i) (at + w + i) (omega arith) (omega arith)
-    ∙ ap (with_cells g) (up_more g.cells at w i blank l)
+    ap (λ x. copied x to (to + w)) e
+    ∙ copies (with_cells g cs) to (to + w) (omega arith) (omega arith)
+    ∙ ap (with_cells g) (up_more g.cells at w to blank b l)
 
-pub lift_all : (g v : Grid) (r h w i : ℕ) → Sound g → r < h → h ≡ g.rows → w ≡ g.columns → i ≡ (h - 1 - r) * w → v ≡ lifting g (r * w) w i → cleared v (h - 1) ≡ removed g r
-lift_all g v r h w i s l eh ew f e =
+pub lift_all : (g v : Grid) (r h w to : ℕ) → Sound g → r < h → h ≡ g.rows → w ≡ g.columns → to ≡ (h - 1) * w → v ≡ lifting g (r * w) w to → cleared v (h - 1) ≡ removed g r
+lift_all g v r h w to s l eh ew f e =
     let full : length g.cells ≡ h * w = s.filled ∙ ap (λ x. x * g.columns) (sym eh) ∙ ap (λ x. h * x) (sym ew) in
-    let v' : Grid = lifting g (r * w) w ((h - 1 - r) * w) in
+    let v' : Grid = lifting g (r * w) w ((h - 1) * w) in
     ap (λ x. cleared x (h - 1)) (e ∙ ap (lifting g (r * w) w) f)
     ∙ clears v' (h - 1) (omega arith)
     ∙ ap (λ x. with_cells g (clear_row blank x (h - 1) v'.cells)) (sym ew)
@@ -123,26 +125,24 @@ lift_all g v r h w i s l eh ew f e =
     ∙ ap (λ x. with_cells g (remove_row blank x r g.cells)) ew
     ∙ sym (removes g r (omega arith))
 
-pub lower_none : (g : Grid) (at w n : ℕ) → g ≡ lowering g at w n n
-lower_none g at w n =
-    let none : 0 ≡ n - n = omega arith in
-    ap (with_cells g) (paste_none g.cells (at + w + n) (drop (at + n) g.cells) ∙ ap (paste g.cells (at + w + n) (drop (at + n) g.cells)) none)
+pub lower_none : (g : Grid) (w last : ℕ) → g ≡ lowering g w last last
+lower_none g w last = ap (with_cells g) (same_lists _ _ (search (rules, places)) (λ k d b. grind (arith, places)))
 
-pub lower_more : (g v : Grid) (at w n j i : ℕ) → at + w + n ≤ length g.cells → j ≡ i + 1 → j ≤ n → 0 < w → v ≡ lowering g at w n j
-    → copied v (at + w + i) (at + i) ≡ lowering g at w n i
-lower_more g v at w n j i l f u z e =
-    let cs = paste g.cells (at + w + (i + 1)) (drop (at + (i + 1)) g.cells) (n - (i + 1)) in
-    let b : i < n = omega arith in
+pub lower_more : (g v : Grid) (w last j from : ℕ) → last + w ≤ length g.cells → j ≡ from + 1 → j ≤ last → 0 < w → v ≡ lowering g w last j
+    → copied v (from + w) from ≡ lowering g w last from
+lower_more g v w last j from l f u z e =
+    let cs = paste g.cells (from + 1 + w) (drop (from + 1) g.cells) (last - (from + 1)) in
+    let b : from < last = omega arith in
     let long : length cs ≡ length g.cells = search (rules, places) in
-    ap (λ x. copied x (at + w + i) (at + i)) (e ∙ ap (lowering g at w n) f)
-    ∙ copies (with_cells g cs) (at + w + i) (at + i) (omega arith) (omega arith)
-    ∙ ap (with_cells g) (down_more g.cells at w n i blank l b z)
+    ap (λ x. copied x (from + w) from) (e ∙ ap (lowering g w last) f)
+    ∙ copies (with_cells g cs) (from + w) from (omega arith) (omega arith)
+    ∙ ap (with_cells g) (down_more g.cells w last from blank l b z)
 
-pub lower_all : (g v : Grid) (r h w i : ℕ) → Sound g → r < h → h ≡ g.rows → w ≡ g.columns → i ≡ 0 → v ≡ lowering g (r * w) w ((h - 1 - r) * w) i → cleared v r ≡ inserted g r
-lower_all g v r h w i s l eh ew f e =
+pub lower_all : (g v : Grid) (r h w from : ℕ) → Sound g → r < h → h ≡ g.rows → w ≡ g.columns → from ≡ r * w → v ≡ lowering g w ((h - 1) * w) from → cleared v r ≡ inserted g r
+lower_all g v r h w from s l eh ew f e =
     let full : length g.cells ≡ h * w = s.filled ∙ ap (λ x. x * g.columns) (sym eh) ∙ ap (λ x. h * x) (sym ew) in
-    let v' : Grid = lowering g (r * w) w ((h - 1 - r) * w) 0 in
-    ap (λ x. cleared x r) (e ∙ ap (lowering g (r * w) w ((h - 1 - r) * w)) f)
+    let v' : Grid = lowering g w ((h - 1) * w) (r * w) in
+    ap (λ x. cleared x r) (e ∙ ap (lowering g w ((h - 1) * w)) f)
     ∙ clears v' r (omega arith)
     ∙ ap (λ x. with_cells g (clear_row blank x r v'.cells)) (sym ew)
     ∙ ap (with_cells g) (down_all blank g.cells r h w l full)

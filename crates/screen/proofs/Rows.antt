@@ -1,72 +1,49 @@
 -- Lists laid out in rows: their lengths, what stands at each place, and the steps that move rows by single elements.
-use Rattle.std.proofs.Common.{◌≡◌, ℕ, ◌+◌, ◌-◌, ◌*◌, ◌<◌, ◌≤◌, ◌≢◌, List, ◌++◌, length, get_or, take, drop, set, replicate, sym, ap, ◌∙◌, ⊎_elim, mul-le-mul_right, add-mul, one-mul, zero-mul, arith, rules}
+use Rattle.std.proofs.Common.{◌≡◌, ℕ, ◌+◌, ◌-◌, ◌*◌, ◌<◌, ◌≤◌, List, length, get_or, drop, set, replicate, sym, ap, ◌∙◌, ⊎_elim, add-mul, one-mul, arith, rules}
 use lib.Seq.{paste}
 use Rattle.std.proofs.lemmas.Bool.{cases_lt, cases_eq}
-use Rattle.std.proofs.lemmas.List.{places, same_lists, ext_get_or, length-set, get_or-set_same, get_or-set_other}
-use Rattle.std.proofs.lemmas.List.Edits.{paste_more}
+use Rattle.std.proofs.lemmas.Nat.{row_fits}
+use Rattle.std.proofs.lemmas.List.{places, same_lists, ext_get_or, get_or-set_other}
+use Rattle.std.proofs.lemmas.Grind.{get_or-set_at}
 use Rattle.screen.specs.Rows.{clear_row, remove_row, insert_row}
 
--- a row before another ends where that one begins, or before
+-- a row before another ends where that one begins, or before; and the last row ends the list
 pub rows_apart : (q r w : ℕ) → q < r → q * w + w ≤ r * w
-rows_apart q r w l =
-    let m : (q + 1) * w ≤ r * w = mul-le-mul_right w (omega arith) in
-    omega (arith, add-mul q 1 w, one-mul w)
+rows_apart q r w l = row_fits q w r w l (omega arith)
 
--- the rows after r, counted
-pub rows_after : (r h w : ℕ) → r < h → r * w + w + (h - 1 - r) * w ≡ h * w
-rows_after r h w l =
-    let all : r + 1 + (h - 1 - r) ≡ h = omega arith in
-    omega (arith, add-mul (r + 1) (h - 1 - r) w, add-mul r 1 w, one-mul w, ap (λ x. x * w) all)
+pub last_row : (h w : ℕ) → 0 < h → (h - 1) * w + w ≡ h * w
+last_row h w l = sym (ap (λ x. (h - 1) * w + x) (one-mul w)) ∙ sym (add-mul (h - 1) 1 w) ∙ ap (λ x. x * w) {x = h - 1 + 1} (omega arith)
 
--- one element more moved up, and one more moved down
-pub up_more : {A : Type 0} (xs : List A) (at w i : ℕ) (d : A) → at + w + i < length xs
-    → set (paste xs at (drop (at + w) xs) i) (at + i) (get_or (paste xs at (drop (at + w) xs) i) (at + w + i) d) ≡ paste xs at (drop (at + w) xs) (i + 1)
-up_more xs at w i d l =
-    let from : get_or (paste xs at (drop (at + w) xs) i) (at + w + i) d ≡ get_or (drop (at + w) xs) i d = grind (arith, places) in
-    let room : i < length (drop (at + w) xs) = search (rules, places) in
-    ap (λ x. set (paste xs at (drop (at + w) xs) i) (at + i) x) from ∙ paste_more xs at (drop (at + w) xs) i d (omega arith) room
+-- one element more filled, one more moved up, and one more moved down
+pub fill_more : {A : Type 0} (xs : List A) (at to : ℕ) (e : A) → at ≤ to → to < length xs
+    → set (paste xs at (replicate (to - at) e) (to - at)) to e ≡ paste xs at (replicate (to + 1 - at) e) (to + 1 - at)
+fill_more xs at to e b l = same_lists _ _ (search (rules, places)) (λ k d h. grind (arith, places, cases_eq k to, get_or-set_at, get_or-set_other))
 
-pub down_more : {A : Type 0} (xs : List A) (at w n i : ℕ) (d : A) → at + w + n ≤ length xs → i < n → 0 < w
-    → set (paste xs (at + w + (i + 1)) (drop (at + (i + 1)) xs) (n - (i + 1))) (at + w + i) (get_or (paste xs (at + w + (i + 1)) (drop (at + (i + 1)) xs) (n - (i + 1))) (at + i) d)
-    ≡ paste xs (at + w + i) (drop (at + i) xs) (n - i)
-down_more xs at w n i d l b z =
-    let ys = paste xs (at + w + (i + 1)) (drop (at + (i + 1)) xs) (n - (i + 1)) in
-    let from : get_or ys (at + i) d ≡ get_or xs (at + i) d = grind (arith, places) in
-    let long : length ys ≡ length xs = search (rules, places) in
-    ap (λ x. set ys (at + w + i) x) from
-    ∙ ext_get_or d (set ys (at + w + i) (get_or xs (at + i) d)) (paste xs (at + w + i) (drop (at + i) xs) (n - i))
-    (length-set ys (at + w + i) (get_or xs (at + i) d) ∙ long ∙ search (rules, places))
-    (λ k h.
-    ⊎_elim
-    (λ (e : k ≡ at + w + i).
-    ap (λ x. get_or (set ys (at + w + i) (get_or xs (at + i) d)) x d) e
-    ∙ get_or-set_same ys (at + w + i) (get_or xs (at + i) d) d (omega arith)
-    ∙ grind (arith, places))
-    (λ (e : k ≢ at + w + i). get_or-set_other ys (at + w + i) k (get_or xs (at + i) d) d e ∙ grind (arith, places))
-    (cases_eq k (at + w + i)))
+pub up_more : {A : Type 0} (xs : List A) (at w to : ℕ) (d : A) → at ≤ to → to + w < length xs
+    → set (paste xs at (drop (at + w) xs) (to - at)) to (get_or (paste xs at (drop (at + w) xs) (to - at)) (to + w) d) ≡ paste xs at (drop (at + w) xs) (to + 1 - at)
+up_more xs at w to d b l = same_lists _ _ (search (rules, places)) (λ k e h. grind (arith, places, cases_eq k to, get_or-set_at, get_or-set_other))
+
+pub down_more : {A : Type 0} (xs : List A) (w last from : ℕ) (d : A) → last + w ≤ length xs → from < last → 0 < w
+    → set (paste xs (from + 1 + w) (drop (from + 1) xs) (last - (from + 1))) (from + w) (get_or (paste xs (from + 1 + w) (drop (from + 1) xs) (last - (from + 1))) from d)
+    ≡ paste xs (from + w) (drop from xs) (last - from)
+down_more xs w last from d l b z = same_lists _ _ (search (rules, places)) (λ k e h. grind (arith, places, cases_eq k (from + w), get_or-set_at, get_or-set_other))
 
 -- all moved, and the row left over filled anew
-up_filled : {A : Type 0} (e : A) (xs : List A) (at w n last : ℕ) → at + w + n ≡ length xs → last ≡ at + n
-    → paste (paste xs at (drop (at + w) xs) n) last (replicate w e) w ≡ take at xs ++ (drop (at + w) xs ++ replicate w e)
-up_filled e xs at w n last l f = same_lists _ _ (search (rules, places)) (λ k d h. grind (arith, places))
-
-down_filled : {A : Type 0} (e : A) (xs : List A) (at w n : ℕ) → at + w + n ≡ length xs
-    → paste (paste xs (at + w + 0) (drop (at + 0) xs) (n - 0)) at (replicate w e) w ≡ take (length xs) (take at xs ++ (replicate w e ++ drop at xs))
-down_filled e xs at w n l = same_lists _ _ (search (rules, places)) (λ k d h. grind (arith, places))
-
 pub up_all : {A : Type 0} (e : A) (xs : List A) (r h w : ℕ) → r < h → length xs ≡ h * w
-    → clear_row e w (h - 1) (paste xs (r * w) (drop (r * w + w) xs) ((h - 1 - r) * w)) ≡ remove_row e w r xs
+    → clear_row e w (h - 1) (paste xs (r * w) (drop (r * w + w) xs) ((h - 1) * w - r * w)) ≡ remove_row e w r xs
 unfolding clear_row remove_row
 up_all e xs r h w l f =
-    let whole : r * w + w + (h - 1 - r) * w ≡ h * w = rows_after r h w l in
-    let end : (h - 1) * w + w + (h - 1 - (h - 1)) * w ≡ h * w = rows_after (h - 1) h w (omega arith) in
-    let none : (h - 1 - (h - 1)) * w ≡ 0 = ap (λ x. x * w) {x = h - 1 - (h - 1)} {y = 0} (omega arith) ∙ zero-mul w in
-    up_filled e xs (r * w) w ((h - 1 - r) * w) ((h - 1) * w) (whole ∙ sym f) (omega arith)
+    let last = last_row h w (omega arith) in
+    let fits = rows_apart r h w l in
+    same_lists _ _ (search (rules, places)) (λ k d b. grind (arith, places))
 
 pub down_all : {A : Type 0} (e : A) (xs : List A) (r h w : ℕ) → r < h → length xs ≡ h * w
-    → clear_row e w r (paste xs (r * w + w + 0) (drop (r * w + 0) xs) ((h - 1 - r) * w - 0)) ≡ insert_row e w r xs
+    → clear_row e w r (paste xs (r * w + w) (drop (r * w) xs) ((h - 1) * w - r * w)) ≡ insert_row e w r xs
 unfolding clear_row insert_row
-down_all e xs r h w l f = down_filled e xs (r * w) w ((h - 1 - r) * w) (rows_after r h w l ∙ sym f)
+down_all e xs r h w l f =
+    let last = last_row h w (omega arith) in
+    let fits = rows_apart r h w l in
+    same_lists _ _ (search (rules, places)) (λ k d b. grind (arith, places))
 
 -- the length of each, and what stands at each place
 pub length_clear_row : {A : Type 0} (e : A) (w r : ℕ) (xs : List A) → r * w + w ≤ length xs → length (clear_row e w r xs) ≡ length xs

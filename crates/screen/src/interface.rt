@@ -78,8 +78,8 @@ pub trait Screen {
         }
         let columns = self.columns();
         let first = row * columns;
-        for i in 0..columns {
-            let _ = self.write(first + i, codes::SPACE, false);
+        for place in first..first + columns {
+            let _ = self.write(place, codes::SPACE, false);
         }
         Ok(())
     }
@@ -95,9 +95,8 @@ pub trait Screen {
             return Err(Refusal::OffScreen);
         }
         let columns = self.columns();
-        let first = row * columns;
-        for i in 0..(rows - 1 - row) * columns {
-            let _ = self.copy_cell(first + i, first + columns + i);
+        for to in row * columns..(rows - 1) * columns {
+            let _ = self.copy_cell(to, to + columns);
         }
         self.clear_row(rows - 1)
     }
@@ -113,9 +112,8 @@ pub trait Screen {
             return Err(Refusal::OffScreen);
         }
         let columns = self.columns();
-        let first = row * columns;
-        for i in (0..(rows - 1 - row) * columns).rev() {
-            let _ = self.copy_cell(first + columns + i, first + i);
+        for from in (row * columns..(rows - 1) * columns).rev() {
+            let _ = self.copy_cell(from + columns, from);
         }
         self.clear_row(row)
     }

@@ -1,9 +1,10 @@
-use Rattle.std.proofs.Common.{◌≡◌, ◌-◌, ◌*◌}
+use Rattle.std.proofs.Common.{◌≡◌, ◌-◌, ◌*◌, ◌≤◌}
 use Rattle.screen.proofs.Grids.{lowering}
 use Rattle.screen.proofs.interface.Screen.insert_row.Given as goal
 
-abbrev pub invariant-loop-i : goal.invariant-loop-i
-invariant-loop-i g l =
+abbrev pub invariant-loop-from : goal.invariant-loop-from
+invariant-loop-from g l =
     let S = g.Self.Screen in
-    (S.rest l.self ≡ S.rest l.initial.self)
-    × (S.grid l.self ≡ lowering (S.grid l.initial.self) l.first l.columns ((l.rows - 1 - l.row) * l.columns) l.i)
+    (l.row * l.columns ≤ l.from)
+    × (S.rest l.self ≡ S.rest l.initial.self)
+    × (S.grid l.self ≡ lowering (S.grid l.initial.self) l.columns ((l.rows - 1) * l.columns) l.from)

@@ -1,8 +1,8 @@
-use Rattle.std.proofs.Common.{◌≡◌}
+use Rattle.std.proofs.Common.{◌≡◌, ◌*◌}
 use Rattle.screen.proofs.Grids.{lifting}
 use Rattle.screen.proofs.interface.Screen.remove_row.Given as goal
 
-abbrev pub invariant-loop-i : goal.invariant-loop-i
-invariant-loop-i g l =
+abbrev pub invariant-loop-to : goal.invariant-loop-to
+invariant-loop-to g l =
     let S = g.Self.Screen in
-    (S.rest l.self ≡ S.rest l.initial.self) × (S.grid l.self ≡ lifting (S.grid l.initial.self) l.first l.columns l.i)
+    (S.rest l.self ≡ S.rest l.initial.self) × (S.grid l.self ≡ lifting (S.grid l.initial.self) (l.row * l.columns) l.columns l.to)
