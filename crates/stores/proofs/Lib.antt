@@ -1,4 +1,3 @@
-mod Masks
 mod Front
 mod Words
 mod Maps

@@ -2,6 +2,7 @@ ghost use Rattle.std.specs.Prelude.{◌≡◌, ℕ, ◌<◌};
 ghost use Rattle.stores.specs.Marks.{bit_of, Marked};
 
 // The bit `at` of a byte.
+#[tactic(auto, using(std::proofs::lemmas::Nat::Bits::shr_and_one), unfolding(crate::specs::Marks::bit_of))]
 pub(crate) fn mark_at(byte: u8, at: usize) -> bool
     requires { at < 8 }
     ensures { result ≡ bit_of byte at }

@@ -1,45 +1,78 @@
 // Rows in the first part of a list: cleared, removed and inserted, with whole rows moved at once.
-ghost use Rattle.std.specs.Prelude.{◌≡◌, ℕ, ◌+◌, ◌*◌, ◌<◌, ◌≤◌, length, replicate};
-ghost use Rattle.std.proofs.Math.Seq.{paste};
+ghost use Rattle.std.specs.Prelude.{◌≡◌, ℕ, ◌*◌, ◌<◌, ◌≤◌, length};
 ghost use Rattle.screen.specs.Rows.{clear_row, remove_row, insert_row};
 ghost use Rattle.stores.specs.Front.{in_front};
 
-// Makes `count` elements from `at` on `filler`.
-pub(crate) fn fill<T: Copy>(items: &mut [T], at: usize, count: usize, filler: T)
-    requires { at + count ≤ length items.old }
-    ensures { items.new ≡ paste items.old at (replicate count filler) count }
-{
-    for i in 0..count {
-        items[at + i] = filler;
+// The first octets of a list in rows of `width`, where `filler` makes a new row.
+#[derive(Drop)]
+pub(crate) struct Rows<'a> {
+    items: &'a mut [u8],
+    rows: usize,
+    width: usize,
+    filler: u8,
+    ghost room: { rows * width ≤ length items.now },
+}
+
+impl<'a> Rows<'a> {
+    pub fn new(items: &'a mut [u8], rows: usize, width: usize, filler: u8) -> Rows<'a>
+        requires { rows * width ≤ length items.old }
+        ensures name { result.items.ghost_name ≡ items.entry.ghost_name }
+        ensures items { result.items.now ≡ items.old }
+        ensures rows { result.rows ≡ rows }
+        ensures width { result.width ≡ width }
+        ensures filler { result.filler ≡ filler }
+    {
+        Rows {
+            items,
+            rows,
+            width,
+            filler,
+        }
     }
-}
 
-pub(crate) fn clear_row<T: Copy>(items: &mut [T], rows: usize, width: usize, row: usize, filler: T)
-    requires on { row * width + width ≤ rows * width }
-    requires room { rows * width ≤ length items.old }
-    ensures { items.new ≡ in_front (rows * width) (clear_row filler width row) items.old }
-{
-    fill(items, row * width, width, filler);
-}
+    pub fn clear(self, row: usize)
+        requires { row < self.rows }
+        ensures { self.exit.0.now ≡ in_front (self.entry.rows * self.entry.width) (clear_row self.entry.filler self.entry.width row) self.entry.items.now }
+    {
+        let Rows {
+            items,
+            width,
+            filler,
+            ..
+        } = self;
+        let first = row * width;
+        items[first..first + width].fill(filler);
+    }
 
-pub(crate) fn remove_row<T: Copy>(items: &mut [T], rows: usize, width: usize, row: usize, filler: T)
-    requires on { row * width + width ≤ rows * width }
-    requires room { rows * width ≤ length items.old }
-    ensures { items.new ≡ in_front (rows * width) (remove_row filler width row) items.old }
-{
-    let first = row * width;
-    let end = rows * width;
-    items.copy_within(first + width..end, first);
-    fill(items, end - width, width, filler);
-}
+    pub fn remove(self, row: usize)
+        requires { row < self.rows }
+        ensures { self.exit.0.now ≡ in_front (self.entry.rows * self.entry.width) (remove_row self.entry.filler self.entry.width row) self.entry.items.now }
+    {
+        let Rows {
+            items,
+            rows,
+            width,
+            filler,
+        } = self;
+        let first = row * width;
+        let end = rows * width;
+        items.copy_within(first + width..end, first);
+        items[end - width..end].fill(filler);
+    }
 
-pub(crate) fn insert_row<T: Copy>(items: &mut [T], rows: usize, width: usize, row: usize, filler: T)
-    requires on { row * width + width ≤ rows * width }
-    requires room { rows * width ≤ length items.old }
-    ensures { items.new ≡ in_front (rows * width) (insert_row filler width row) items.old }
-{
-    let first = row * width;
-    let end = rows * width;
-    items.copy_within(first..end - width, first + width);
-    fill(items, first, width, filler);
+    pub fn insert(self, row: usize)
+        requires { row < self.rows }
+        ensures { self.exit.0.now ≡ in_front (self.entry.rows * self.entry.width) (insert_row self.entry.filler self.entry.width row) self.entry.items.now }
+    {
+        let Rows {
+            items,
+            rows,
+            width,
+            filler,
+        } = self;
+        let first = row * width;
+        let end = rows * width;
+        items.copy_within(first..end - width, first + width);
+        items[first..first + width].fill(filler);
+    }
 }

@@ -6,13 +6,12 @@ ghost use Rattle.stores.specs.Words.{word_of, cell_of};
 pub(crate) fn word_of(code: u8, mark: bool) -> u16
     ensures { result ≡ word_of code mark }
 {
-    let high = if mark { 0x100 } else { 0 };
-    u16::from(code) + high
+    u16::from(code) | u16::from(mark) << 8
 }
 
 // The character and the mark in a word.
 pub(crate) fn parts_of(word: u16) -> (u8, bool)
     ensures { result ≡ parts (cell_of word) }
 {
-    ((word % 0x100) as u8, word / 0x100 % 2 == 1)
+    ((word & 0xff) as u8, (word >> 8) & 1 == 1)
 }

@@ -1,9 +1,19 @@
-use Rattle.std.proofs.lemmas.Nat.{one_shl}
-use Rattle.stores.proofs.Masks.{set_bit, clear_bit}
+use Rattle.std.proofs.Common.{eqb, sym, ap, ◌∙◌}
+use Rattle.std.specs.Int.{w8}
+use Rattle.std.proofs.lemmas.Nat.Bits.{bit_at_set_same, bit_at_set_other, bit_at_clear_same, bit_at_clear_other}
+use Rattle.stores.specs.Marks.{bit_of}
 use Rattle.stores.proofs.marks.with_mark.Goals as goal
 
 pub returns-then-mark : goal.returns-then-mark
-returns-then-mark c = set_bit c.args.old c.args.at c.args.mark _ c.requires c.if-mark.true (one_shl c.args.at 8 c.requires)
+unfolding bit_of
+returns-then-mark c = record {
+  same = ap (λ x. eqb x 1) (bit_at_set_same w8 c.args.old c.args.at c.requires) ∙ sym c.if-mark.true;
+  others = λ j b ne. ap (λ x. eqb x 1) (bit_at_set_other w8 c.args.old c.args.at c.requires j ne);
+}
 
 pub returns-else-mark : goal.returns-else-mark
-returns-else-mark c = clear_bit c.args.old c.args.at c.args.mark _ c.requires c.if-mark.false (one_shl c.args.at 8 c.requires)
+unfolding bit_of
+returns-else-mark c = record {
+  same = ap (λ x. eqb x 1) (bit_at_clear_same w8 c.args.old c.args.at c.requires) ∙ sym c.if-mark.false;
+  others = λ j b ne. ap (λ x. eqb x 1) (bit_at_clear_other w8 c.args.old c.args.at c.requires j b ne);
+}

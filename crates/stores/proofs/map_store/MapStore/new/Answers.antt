@@ -1,11 +1,14 @@
-use Rattle.std.proofs.Common.{refl}
-use Rattle.stores.proofs.Maps.{new_codes, new_grid}
+use Rattle.std.proofs.Common.{◌*◌, ap}
+use Rattle.stores.proofs.Maps.{cells_most, new_codes, new_cells}
 use Rattle.stores.proofs.map_store.MapStore.new.Goals as goal
 
 pub invariant_of-result : goal.invariant_of-result
 invariant_of-result c =
     let s = c.args.size in
-    record { size = s.allowed; chars_long = refl; marks_long = refl; held = new_codes s.rows s.columns s.allowed }
+    record { held = new_codes (s.rows * s.columns) 1920 (cells_most s.rows s.columns s.allowed) }
 
 pub returns : goal.returns
-returns c = new_grid c.args.size.rows c.args.size.columns c.args.size.allowed
+returns c =
+    let s = c.args.size in
+    let most = cells_most s.rows s.columns s.allowed in
+    ap (λ cs. record { rows = s.rows; columns = s.columns; cells = cs }) (new_cells (s.rows * s.columns) 1920 240 most most)

@@ -1,6 +1,0 @@
-use Rattle.std.proofs.Common.{◌*◌}
-use Rattle.stores.proofs.Front.{removed_front}
-use Rattle.stores.proofs.rows.remove_row.Goals as goal
-
-pub returns : goal.returns
-returns g c = removed_front c.args.filler c.args.items.now _ _ c.args.row c.args.width (c.args.rows * c.args.width) c.requires.on c.requires.room c.copy_within.ensures.after c.fill.ensures
