@@ -2,10 +2,10 @@ ghost use Rattle.std.specs.Prelude.{◌≡◌, ℕ, ◌-◌};
 ghost use Rattle.std.specs.Borrow.{GName};
 ghost use Rattle.screen.specs.Grid.{has_row, removed, inserted};
 ghost use Rattle.screen.specs.Answers.{done_if};
-ghost use Rattle.turning.specs.Order.{Permutes, turned_by, turned_sound, freed_below};
+ghost use Rattle.turning.specs.Order.{turned_by, turned_sound, freed_below};
 
-use crate::below::{place_below, row_below};
-use crate::order::{Order, fitting, natural_order, turned_down, turned_up};
+use crate::below::place_below;
+use crate::order::Order;
 use screen::interface::Screen;
 use screen::refusal::Refusal;
 
@@ -14,7 +14,6 @@ use screen::refusal::Refusal;
 pub struct Turning<'s, S> {
     below: &'s mut S,
     order: Order,
-    ghost ordered: { Permutes order.at order.rows },
 }
 
 impl<'s, S: Screen> Turning<'s, S> {
@@ -25,7 +24,7 @@ impl<'s, S: Screen> Turning<'s, S> {
         ensures grid { turned_by result.order.at result.order.rows (S.grid result.below.now) ≡ S.grid below.old }
     {
         let rows = below.rows();
-        let order = natural_order(rows);
+        let order = Order::natural(rows);
         Turning { below, order }
     }
 
@@ -45,7 +44,7 @@ impl<'s, S: Screen> Screen for Turning<'s, S> {
 
     ghost rest = { λ t. (t.below.ghost_name, S.Screen.rest t.below.now) };
 
-    ghost sound = { λ t. turned_sound t.order.at t.order.rows (S.Screen.grid t.below.now) t.ordered (S.Screen.sound t.below.now) };
+    ghost sound = { λ t. turned_sound t.order.at t.order.rows (S.Screen.grid t.below.now) t.order.permutes (S.Screen.sound t.below.now) };
 
     fn rows(&self) -> usize {
         self.below.rows()
@@ -70,8 +69,8 @@ impl<'s, S: Screen> Screen for Turning<'s, S> {
         if row >= rows {
             return Err(Refusal::OffScreen);
         }
-        let order = fitting(self.order, rows);
-        self.below.clear_row(row_below(order, row))
+        let order = self.order.fitted(rows);
+        self.below.clear_row(order.row(row))
     }
 
     // moves no cell: the row below that is freed becomes the last row
@@ -85,9 +84,9 @@ impl<'s, S: Screen> Screen for Turning<'s, S> {
         if row >= rows {
             return Err(Refusal::OffScreen);
         }
-        let order = fitting(self.order, rows);
-        let freed = row_below(order, row);
-        self.order = turned_up(order, row);
+        let order = self.order.fitted(rows);
+        let freed = order.row(row);
+        self.order = order.turned_up(row);
         self.below.clear_row(freed)
     }
 
@@ -102,9 +101,9 @@ impl<'s, S: Screen> Screen for Turning<'s, S> {
         if row >= rows {
             return Err(Refusal::OffScreen);
         }
-        let order = fitting(self.order, rows);
-        let freed = row_below(order, rows - 1);
-        self.order = turned_down(order, row);
+        let order = self.order.fitted(rows);
+        let freed = order.row(rows - 1);
+        self.order = order.turned_down(row);
         self.below.clear_row(freed)
     }
 }
