@@ -1,5 +1,5 @@
 -- Lists laid out in rows: their lengths, what stands at each place, and the steps that move rows by single elements.
-use Rattle.std.proofs.Common.{◌≡◌, ℕ, ◌+◌, ◌-◌, ◌*◌, ◌<◌, ◌≤◌, List, length, get_or, drop, set, replicate, sym, ap, ◌∙◌, ⊎_elim, add-mul, one-mul, arith, rules}
+use Rattle.std.proofs.Common.{◌≡◌, ℕ, ◌+◌, ◌-◌, ◌*◌, ◌<◌, ◌≤◌, List, length, get_or, drop, set, replicate, sym, ap, ◌∙◌, add-mul, one-mul, arith, rules}
 use lib.Seq.{paste}
 use Rattle.std.proofs.lemmas.Bool.{cases_lt, cases_eq}
 use Rattle.std.proofs.lemmas.Nat.{row_fits}
@@ -45,11 +45,7 @@ down_all e xs r h w l f =
     let fits = rows_apart r h w l in
     same_lists _ _ (search (rules, places)) (λ k d b. grind (arith, places))
 
--- the length of each, and what stands at each place
-pub length_clear_row : {A : Type 0} (e : A) (w r : ℕ) (xs : List A) → r * w + w ≤ length xs → length (clear_row e w r xs) ≡ length xs
-unfolding clear_row
-length_clear_row e w r xs h = search (rules, places)
-
+-- what stands at each place
 pub clear_below : {A : Type 0} (e : A) (w r : ℕ) (xs : List A) (k : ℕ) (d : A) → r * w + w ≤ length xs → k < r * w → get_or (clear_row e w r xs) k d ≡ get_or xs k d
 unfolding clear_row
 clear_below e w r xs k d h l = grind (arith, places)
@@ -62,86 +58,30 @@ pub clear_above : {A : Type 0} (e : A) (w r : ℕ) (xs : List A) (k : ℕ) (d : 
 unfolding clear_row
 clear_above e w r xs k d h l = grind (arith, places)
 
-pub length_remove_row : {A : Type 0} (e : A) (w r : ℕ) (xs : List A) → r * w + w ≤ length xs → length (remove_row e w r xs) ≡ length xs
-unfolding remove_row
-length_remove_row e w r xs h = search (rules, places)
-
-pub remove_below : {A : Type 0} (e : A) (w r : ℕ) (xs : List A) (k : ℕ) (d : A) → r * w + w ≤ length xs → k < r * w → get_or (remove_row e w r xs) k d ≡ get_or xs k d
-unfolding remove_row
-remove_below e w r xs k d h l = grind (arith, places)
-
-pub remove_within : {A : Type 0} (e : A) (w r : ℕ) (xs : List A) (k : ℕ) (d : A) → r * w + w ≤ length xs → r * w ≤ k → k + w < length xs → get_or (remove_row e w r xs) k d ≡ get_or xs (k + w) d
-unfolding remove_row
-remove_within e w r xs k d h l u = grind (arith, places)
-
-pub remove_last : {A : Type 0} (e : A) (w r : ℕ) (xs : List A) (k : ℕ) (d : A) → r * w + w ≤ length xs → length xs ≤ k + w → k < length xs → get_or (remove_row e w r xs) k d ≡ e
-unfolding remove_row
-remove_last e w r xs k d h l u = grind (arith, places)
-
-pub length_insert_row : {A : Type 0} (e : A) (w r : ℕ) (xs : List A) → r * w + w ≤ length xs → length (insert_row e w r xs) ≡ length xs
-unfolding insert_row
-length_insert_row e w r xs h = search (rules, places)
-
-pub insert_below : {A : Type 0} (e : A) (w r : ℕ) (xs : List A) (k : ℕ) (d : A) → r * w + w ≤ length xs → k < r * w → get_or (insert_row e w r xs) k d ≡ get_or xs k d
-unfolding insert_row
-insert_below e w r xs k d h l = grind (arith, places)
-
-pub insert_within : {A : Type 0} (e : A) (w r : ℕ) (xs : List A) (k : ℕ) (d : A) → r * w + w ≤ length xs → r * w ≤ k → k < r * w + w → get_or (insert_row e w r xs) k d ≡ e
-unfolding insert_row
-insert_within e w r xs k d h l u = grind (arith, places)
-
-pub insert_above : {A : Type 0} (e : A) (w r : ℕ) (xs : List A) (k : ℕ) (d : A) → r * w + w ≤ length xs → r * w + w ≤ k → k < length xs → get_or (insert_row e w r xs) k d ≡ get_or xs (k - w) d
-unfolding insert_row
-insert_above e w r xs k d h l u = grind (arith, places)
-
 -- a list with these elements at its places is the one
 pub is_clear_row : {A : Type 0} (e d : A) (w r : ℕ) (xs ys : List A) → r * w + w ≤ length xs → length ys ≡ length xs
     → ((k : ℕ) → k < r * w → get_or ys k d ≡ get_or xs k d)
     → ((k : ℕ) → r * w ≤ k → k < r * w + w → get_or ys k d ≡ e)
     → ((k : ℕ) → r * w + w ≤ k → k < length xs → get_or ys k d ≡ get_or xs k d)
     → ys ≡ clear_row e w r xs
+unfolding clear_row
 is_clear_row e d w r xs ys h n below within above =
-    ext_get_or d ys (clear_row e w r xs) (n ∙ sym (length_clear_row e w r xs h))
-    (λ k l.
-    ⊎_elim
-    (λ (b : k < r * w). below k b ∙ sym (clear_below e w r xs k d h b))
-    (λ (a : r * w ≤ k).
-    ⊎_elim
-    (λ (b : k < r * w + w). within k a b ∙ sym (clear_within e w r xs k d h a b))
-    (λ (b : r * w + w ≤ k). above k b (omega arith) ∙ sym (clear_above e w r xs k d h b))
-    (cases_lt k (r * w + w)))
-    (cases_lt k (r * w)))
+    ext_get_or d _ _ (n ∙ search (rules, places)) (λ k l. grind (arith, places, below k, within k, above k, cases_lt k (r * w), cases_lt k (r * w + w)))
 
 pub is_remove_row : {A : Type 0} (e d : A) (w r : ℕ) (xs ys : List A) → r * w + w ≤ length xs → length ys ≡ length xs
     → ((k : ℕ) → k < r * w → get_or ys k d ≡ get_or xs k d)
     → ((k : ℕ) → r * w ≤ k → k + w < length xs → get_or ys k d ≡ get_or xs (k + w) d)
     → ((k : ℕ) → length xs ≤ k + w → k < length xs → get_or ys k d ≡ e)
     → ys ≡ remove_row e w r xs
+unfolding remove_row
 is_remove_row e d w r xs ys h n below within last =
-    ext_get_or d ys (remove_row e w r xs) (n ∙ sym (length_remove_row e w r xs h))
-    (λ k l.
-    ⊎_elim
-    (λ (b : k < r * w). below k b ∙ sym (remove_below e w r xs k d h b))
-    (λ (a : r * w ≤ k).
-    ⊎_elim
-    (λ (b : k + w < length xs). within k a b ∙ sym (remove_within e w r xs k d h a b))
-    (λ (b : length xs ≤ k + w). last k b (omega arith) ∙ sym (remove_last e w r xs k d h b (omega arith)))
-    (cases_lt (k + w) (length xs)))
-    (cases_lt k (r * w)))
+    ext_get_or d _ _ (n ∙ search (rules, places)) (λ k l. grind (arith, places, below k, within k, last k, cases_lt k (r * w), cases_lt (k + w) (length xs)))
 
 pub is_insert_row : {A : Type 0} (e d : A) (w r : ℕ) (xs ys : List A) → r * w + w ≤ length xs → length ys ≡ length xs
     → ((k : ℕ) → k < r * w → get_or ys k d ≡ get_or xs k d)
     → ((k : ℕ) → r * w ≤ k → k < r * w + w → get_or ys k d ≡ e)
     → ((k : ℕ) → r * w + w ≤ k → k < length xs → get_or ys k d ≡ get_or xs (k - w) d)
     → ys ≡ insert_row e w r xs
+unfolding insert_row
 is_insert_row e d w r xs ys h n below within above =
-    ext_get_or d ys (insert_row e w r xs) (n ∙ sym (length_insert_row e w r xs h))
-    (λ k l.
-    ⊎_elim
-    (λ (b : k < r * w). below k b ∙ sym (insert_below e w r xs k d h b))
-    (λ (a : r * w ≤ k).
-    ⊎_elim
-    (λ (b : k < r * w + w). within k a b ∙ sym (insert_within e w r xs k d h a b))
-    (λ (b : r * w + w ≤ k). above k b (omega arith) ∙ sym (insert_above e w r xs k d h b (omega arith)))
-    (cases_lt k (r * w + w)))
-    (cases_lt k (r * w)))
+    ext_get_or d _ _ (n ∙ search (rules, places)) (λ k l. grind (arith, places, below k, within k, above k, cases_lt k (r * w), cases_lt k (r * w + w)))

@@ -1,5 +1,5 @@
 -- Places through the order.
-use Rattle.std.proofs.Common.{◌≡◌, ℕ, ◌+◌, ◌*◌, ◌/◌, ◌%◌, ◌<◌, false, ltb, List, length, get_or, Ok, Err, Result, sym, ap, ◌∙◌, subst, arith}
+use Rattle.std.proofs.Common.{◌≡◌, ℕ, ◌+◌, ◌*◌, ◌/◌, ◌%◌, ◌<◌, ltb, List, length, get_or, Ok, Result, sym, ap, ◌∙◌, subst, arith}
 use Rattle.std.proofs.lemmas.Bool.{ltb-true, lt-ltb, and_from}
 use Rattle.std.proofs.lemmas.Nat.{div_below, mod_below}
 use Rattle.screen.specs.declared.refusal.Refusal.{Refusal}
@@ -7,7 +7,7 @@ use Rattle.screen.specs.Cells.{blank}
 use Rattle.screen.specs.Grid.{Grid, Sound, has_place}
 use Rattle.screen.specs.Answers.{on_screen, split_at, place_at}
 use Rattle.screen.specs.View.{Into, length_table}
-use Rattle.screen.proofs.Answers.{on_ok, on_err}
+use Rattle.screen.proofs.Answers.{on_ok}
 use Rattle.turning.specs.Order.{under, turned_by, Permutes, fitted, fitted_permutes, under_into}
 use Rattle.turning.proofs.Turned.{Reads, reads_fitted}
 

@@ -1,7 +1,5 @@
-use Rattle.std.proofs.Common.{◌≡◌, ℕ, Err, Result, ◌∙◌, arith}
-use Rattle.std.proofs.lemmas.Result.{err_from_is_err_and}
-use Rattle.screen.specs.declared.refusal.Refusal.{Refusal}
-use Rattle.turning.proofs.Turned.{Reads, reads_permutes}
+use Rattle.std.proofs.Common.{◌∙◌, arith}
+use Rattle.turning.proofs.Turned.{Reads}
 use Rattle.turning.proofs.Through.{place_through, length_turned}
 use Rattle.turning.proofs.below.place_below.Goals as goal
 

@@ -1,8 +1,6 @@
-use Rattle.std.proofs.Common.{◌≡◌, length, Err, refl, ◌∙◌}
-use Rattle.std.proofs.lemmas.Result.{err_from_is_err_and}
-use Rattle.screen.specs.declared.refusal.Refusal.TheVariants.{OffScreen}
-use Rattle.screen.proofs.Views.{read_off, not_found, read_through}
-use Rattle.turning.specs.Order.{under, fitted, turned_by}
+use Rattle.std.proofs.Common.{◌∙◌}
+use Rattle.screen.proofs.Views.{read_through}
+use Rattle.turning.specs.Order.{under, fitted}
 use Rattle.turning.proofs.Through.{into}
 use Rattle.turning.proofs.turning.TurningScreen.read.Goals as goal
 

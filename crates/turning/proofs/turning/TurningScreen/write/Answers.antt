@@ -1,8 +1,6 @@
-use Rattle.std.proofs.Common.{◌≡◌, length, Err, refl, ap, ◌∙◌}
-use Rattle.std.proofs.lemmas.Result.{err_from_is_err_and}
-use Rattle.screen.specs.declared.refusal.Refusal.TheVariants.{OffScreen}
+use Rattle.std.proofs.Common.{ap, ◌∙◌}
 use Rattle.screen.specs.Answers.{done_if}
-use Rattle.screen.proofs.Views.{write_off, unwritten_off, not_found, writable_through, written_through}
+use Rattle.screen.proofs.Views.{writable_through, written_through}
 use Rattle.turning.specs.Order.{under, fitted, turned_by}
 use Rattle.turning.proofs.Through.{into}
 use Rattle.turning.proofs.turning.TurningScreen.write.Goals as goal
