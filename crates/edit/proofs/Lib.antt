@@ -1,5 +1,5 @@
 pub mod Captions
-pub mod CellsRead
+pub mod Drawing
 pub mod Keeps
 pub mod PartsDrawn
 pub mod Runs

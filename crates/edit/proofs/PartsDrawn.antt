@@ -1,9 +1,10 @@
 -- Changes of some cells, under way and done.
-use Rattle.std.proofs.Common.{◌≡◌, ℕ, suc, ◌+◌, ◌-◌, ◌<◌, ◌≤◌, Bool, true, false, List, [], ◌∷◌, ◌++◌, length, get_or, take, drop, set, sym, refl, ap, ◌∙◌, arith, rules}
+use Rattle.std.proofs.Common.{◌≡◌, ℕ, suc, ◌+◌, ◌-◌, ◌<◌, ◌≤◌, Bool, true, false, cond, ltb, List, [], ◌∷◌, ◌++◌, length, get_or, set, sym, refl, ap, ◌∙◌, ⊎_elim, arith}
 use lib.Seq.{paste}
-use Rattle.std.proofs.lemmas.Bool.{and_from, cond-true, cond-false, lt-ltb}
+use Rattle.std.specs.List.{between}
+use Rattle.std.proofs.lemmas.Bool.{and_from, cond-true, cond-false, lt-ltb, le-ltb, cases_lt}
 use Rattle.std.proofs.lemmas.List.{places, length-drop, length-map, length-replicate, length-append, length-take-le, get_or-map, get_or-replicate, get_or-take, get_or-drop, get_or_append_left, get_or_push, set-get_or}
-use Rattle.std.proofs.lemmas.List.Edits.{paste_none, paste_more, paste_all, length-paste}
+use Rattle.std.proofs.lemmas.List.Edits.{get_or-between, length-between, paste_none, paste_more, paste_all, length-paste}
 use Rattle.codes.specs.Ascii.{SPACE}
 use Rattle.screen.specs.Cells.{Cell, cell, blank, storable}
 use Rattle.screen.specs.Grid.{Grid, with_cells, writable, written}
@@ -11,19 +12,9 @@ use Rattle.screen.proofs.Cells.{space_storable}
 use Rattle.edit.specs.View.{size}
 use Rattle.edit.specs.Parts.{redraw, erased, emptied, open_erased, deleted, pushed}
 
--- the cells of a part
-abbrev pub part : Grid → ℕ → ℕ → List Cell
-part g p n = take n (drop p g.cells)
-
 -- the first of the new cells s are drawn from p up to the place k
 abbrev pub partly : Grid → ℕ → List Cell → ℕ → Grid
 partly g p s k = with_cells g (paste g.cells p s (k - p))
-
-pub length_part : (g : Grid) (p n : ℕ) → p + n ≤ size g → length (part g p n) ≡ n
-length_part g p n h = search (rules, places)
-
-pub part_at : (g : Grid) (p n i : ℕ) → i < n → get_or (part g p n) i blank ≡ get_or g.cells (p + i) blank
-part_at g p n i l = get_or-take n (drop p g.cells) i blank l ∙ get_or-drop p g.cells i blank
 
 -- what is not drawn yet is as it was
 pub partly_above : (g v : Grid) (p : ℕ) (s : List Cell) (k j : ℕ) → p ≤ k → k ≤ j → k ≤ size g → k - p ≤ length s → v ≡ partly g p s k → get_or v.cells j blank ≡ get_or g.cells j blank
@@ -48,10 +39,12 @@ partly_more g v p s k c m a h l st e w =
     ∙ paste_more g.cells p s i blank (omega arith) l
     ∙ ap (paste g.cells p s) (sym on))
 
-pub partly_all : (g v : Grid) (p n k : ℕ) (f : List Cell → List Cell) → k ≡ p + n → length (f (part g p n)) ≡ n → v ≡ partly g p (f (part g p n)) k → v ≡ redraw g p n f
-partly_all g v p n k f e l w =
-    let all : k - p ≡ n = omega arith in
-    w ∙ ap (with_cells g) (ap (paste g.cells p (f (part g p n))) all ∙ paste_all g.cells p (f (part g p n)) n (sym l))
+pub partly_all : (g v : Grid) (p end : ℕ) (f : List Cell → List Cell) → p ≤ end → length (f (between p end g.cells)) ≡ end - p → v ≡ partly g p (f (between p end g.cells)) end
+    → v ≡ redraw g p (end - p) f
+partly_all g v p end f a l w =
+    let s = f (between p end g.cells) in
+    let at : p + (end - p) ≡ end = omega arith in
+    w ∙ ap (with_cells g) (paste_all g.cells p s (end - p) (sym l))
 
 -- where the new cell is the old one, nothing need be drawn
 pub partly_same : (g v : Grid) (p : ℕ) (s : List Cell) (k : ℕ) → p ≤ k → k < size g → k - p < length s → get_or g.cells k blank ≡ get_or s (k - p) blank
@@ -93,66 +86,66 @@ deleted_last : (cs : List Cell) (i : ℕ) → i + 1 ≡ length cs → blank ≡ 
 deleted_last cs i e = sym (get_or-drop 1 (cs ++ (blank ∷ [])) i blank ∙ get_or_push cs blank blank (1 + i) (omega arith))
 
 -- one cell more of each change; v is the screen's grid then
-module _ (g v : Grid) (p n k : ℕ) (low : p ≤ k) (high : k < p + n) (fits : p + n ≤ size g) where
-  long : length (part g p n) ≡ n
-  long = length_part g p n fits
+module _ (g v : Grid) (p end k : ℕ) (low : p ≤ k) (high : k < end) (fits : end ≤ size g) where
+  abbrev old : List Cell
+  old = between p end g.cells
 
-  old : get_or (part g p n) (k - p) blank ≡ get_or g.cells k blank
-  old = let at : p + (k - p) ≡ k = omega arith in part_at g p n (k - p) (omega arith) ∙ ap (λ j. get_or g.cells j blank) at
+  long : length old ≡ end - p
+  long = length-between g.cells p end fits
 
-  pub erase_more : v ≡ partly g p (erased (part g p n)) k → written v k SPACE false ≡ partly g p (erased (part g p n)) (k + 1)
+  here : get_or old (k - p) blank ≡ get_or g.cells k blank
+  here = let at : p + (k - p) ≡ k = omega arith in get_or-between g.cells p end (k - p) blank (omega arith) ∙ ap (λ j. get_or g.cells j blank) at
+
+  pub erase_more : v ≡ partly g p (erased old) k → written v k SPACE false ≡ partly g p (erased old) (k + 1)
   erase_more w =
-      let s = part g p n in
-      partly_more g v p (erased s) k SPACE false low (omega arith) (omega (arith, length_erased s, long)) space_storable
-      (sym (get_or-replicate (length s) (k - p) blank blank (omega (arith, long)))) w
+      partly_more g v p (erased old) k SPACE false low (omega arith) (omega (arith, length_erased old, long)) space_storable
+      (sym (get_or-replicate (length old) (k - p) blank blank (omega (arith, long)))) w
 
-  emptied_here : emptied (get_or g.cells k blank) ≡ get_or (open_erased (part g p n)) (k - p) blank
-  emptied_here = ap emptied (sym old) ∙ sym (get_or-map emptied (part g p n) (k - p) blank blank (omega (arith, long)))
+  emptied_here : emptied (get_or g.cells k blank) ≡ get_or (open_erased old) (k - p) blank
+  emptied_here = ap emptied (sym here) ∙ sym (get_or-map emptied old (k - p) blank blank (omega (arith, long)))
 
-  pub erase_open_more : (get_or v.cells k blank).protected ≡ false → v ≡ partly g p (open_erased (part g p n)) k → written v k SPACE false ≡ partly g p (open_erased (part g p n)) (k + 1)
+  pub erase_open_more : (get_or v.cells k blank).protected ≡ false → v ≡ partly g p (open_erased old) k → written v k SPACE false ≡ partly g p (open_erased old) (k + 1)
   erase_open_more free w =
-      let s = open_erased (part g p n) in
-      let len = length_open_erased (part g p n) in
+      let s = open_erased old in
+      let len = length_open_erased old in
       let was = partly_above g v p s k k low (omega arith) (omega arith) (omega (arith, len, long)) w in
       partly_more g v p s k SPACE false low (omega arith) (omega (arith, len, long)) space_storable
       (sym (cond-false (get_or g.cells k blank).protected (get_or g.cells k blank) blank (sym (ap (λ x. x.protected) was) ∙ free)) ∙ emptied_here) w
 
-  pub erase_open_keeps : (get_or v.cells k blank).protected ≡ true → v ≡ partly g p (open_erased (part g p n)) k → v ≡ partly g p (open_erased (part g p n)) (k + 1)
+  pub erase_open_keeps : (get_or v.cells k blank).protected ≡ true → v ≡ partly g p (open_erased old) k → v ≡ partly g p (open_erased old) (k + 1)
   erase_open_keeps shut w =
-      let s = open_erased (part g p n) in
-      let len = length_open_erased (part g p n) in
+      let s = open_erased old in
+      let len = length_open_erased old in
       let was = partly_above g v p s k k low (omega arith) (omega arith) (omega (arith, len, long)) w in
       partly_same g v p s k low (omega arith) (omega (arith, len, long))
       (sym (cond-true (get_or g.cells k blank).protected (get_or g.cells k blank) blank (sym (ap (λ x. x.protected) was) ∙ shut)) ∙ emptied_here) w
 
-  pub delete_more : (c : ℕ) (m : Bool) → k + 1 < p + n → storable c ≡ true → cell c m ≡ get_or v.cells (k + 1) blank → v ≡ partly g p (deleted (part g p n)) k
-      → written v k c m ≡ partly g p (deleted (part g p n)) (k + 1)
-  delete_more c m l st e w =
-      let s = part g p n in
-      let len = length_deleted s in
-      let i : ℕ = k - p in
-      let on : p + (i + 1) ≡ k + 1 = omega arith in
-      let was = partly_above g v p (deleted s) k (k + 1) low (omega arith) (omega arith) (omega (arith, len, long)) w in
-      let new = part_at g p n (i + 1) (omega arith) ∙ ap (λ j. get_or g.cells j blank) on in
-      partly_more g v p (deleted s) k c m low (omega arith) (omega (arith, len, long)) st (e ∙ was ∙ sym new ∙ deleted_next s i (omega (arith, long))) w
+  pub delete_more : (c : ℕ) (m : Bool) → storable c ≡ true → cell c m ≡ cond (ltb (k + 1) end) (get_or v.cells (k + 1) blank) blank → v ≡ partly g p (deleted old) k
+      → written v k c m ≡ partly g p (deleted old) (k + 1)
+  delete_more c m st e w =
+      let len = length_deleted old in
+      let on : p + (k - p + 1) ≡ k + 1 = omega arith in
+      let was = partly_above g v p (deleted old) k (k + 1) low (omega arith) in
+      let next : cond (ltb (k + 1) end) (get_or v.cells (k + 1) blank) blank ≡ get_or (deleted old) (k - p) blank =
+      ⊎_elim
+      (λ l.
+      cond-true (ltb (k + 1) end) _ _ (lt-ltb (k + 1) end l)
+      ∙ was (omega arith) (omega (arith, len, long)) w
+      ∙ sym (get_or-between g.cells p end (k - p + 1) blank (omega arith) ∙ ap (λ j. get_or g.cells j blank) on)
+      ∙ deleted_next old (k - p) (omega (arith, long)))
+      (λ l. cond-false (ltb (k + 1) end) _ _ (le-ltb (k + 1) end l) ∙ deleted_last old (k - p) (omega (arith, long)))
+      (cases_lt (k + 1) end) in
+      partly_more g v p (deleted old) k c m low (omega arith) (omega (arith, len, long)) st (e ∙ next) w
 
-  pub delete_last : k + 1 ≡ p + n → v ≡ partly g p (deleted (part g p n)) k → written v k SPACE false ≡ partly g p (deleted (part g p n)) (k + 1)
-  delete_last l w =
-      let s = part g p n in
-      let len = length_deleted s in
-      partly_more g v p (deleted s) k SPACE false low (omega arith) (omega (arith, len, long)) space_storable (deleted_last s (k - p) (omega (arith, long))) w
-
-  pub insert_more : (c : ℕ) (m : Bool) → storable c ≡ true → cell c m ≡ get_or (blank ∷ part g p n) (k - p) blank → v ≡ partly g p (pushed (part g p n)) k
-      → written v k c m ≡ partly g p (pushed (part g p n)) (k + 1)
+  pub insert_more : (c : ℕ) (m : Bool) → storable c ≡ true → cell c m ≡ get_or (blank ∷ old) (k - p) blank → v ≡ partly g p (pushed old) k
+      → written v k c m ≡ partly g p (pushed old) (k + 1)
   insert_more c m st e w =
-      let s = part g p n in
-      let len = length_pushed s in
-      partly_more g v p (pushed s) k c m low (omega arith) (omega (arith, len, long)) st (e ∙ sym (get_or-take (length s) (blank ∷ s) (k - p) blank (omega (arith, long)))) w
+      let len = length_pushed old in
+      partly_more g v p (pushed old) k c m low (omega arith) (omega (arith, len, long)) st (e ∙ sym (get_or-take (length old) (blank ∷ old) (k - p) blank (omega (arith, long)))) w
 
-  pub insert_next : v ≡ partly g p (pushed (part g p n)) k → get_or v.cells k blank ≡ get_or (blank ∷ part g p n) (k + 1 - p) blank
+  pub insert_next : v ≡ partly g p (pushed old) k → get_or v.cells k blank ≡ get_or (blank ∷ old) (k + 1 - p) blank
   insert_next w =
-      let s = part g p n in
       let on : k + 1 - p ≡ suc (k - p) = omega arith in
-      partly_above g v p (pushed s) k k low (omega arith) (omega arith) (omega (arith, length_pushed s, long)) w
-      ∙ sym old
-      ∙ ap (λ j. get_or (blank ∷ s) j blank) (sym on)
+      partly_above g v p (pushed old) k k low (omega arith) (omega arith) (omega (arith, length_pushed old, long)) w
+      ∙ sym here
+      ∙ ap (λ j. get_or (blank ∷ old) j blank) (sym on)

@@ -1,53 +1,68 @@
 -- Runs of cells that pass a test.
-use Rattle.std.proofs.Common.{◌≡◌, ℕ, zero, suc, ◌+◌, ◌-◌, ◌*◌, ◌/◌, ◌%◌, ◌<◌, ◌≤◌, Bool, true, false, ltb, List, [], ◌∷◌, length, get_or, take, drop, sym, refl, ap, ◌∙◌, ⊎_elim, mul-le-mul_right, add-mul, one-mul, div-add-mod', arith}
-use Rattle.std.specs.List.{prefix_len}
-use Rattle.std.proofs.lemmas.Bool.{cond-true, cond-false, cond_both, lt-ltb, ltb-true, cases_lt}
-use Rattle.std.proofs.lemmas.List.{drop_more, length-take, length-drop}
-use Rattle.std.proofs.lemmas.List.Sums.{prefix_len-le-length}
-use Rattle.std.proofs.lemmas.Nat.{div_below, mod_below}
+use Rattle.std.proofs.Common.{◌≡◌, ℕ, zero, suc, ◌+◌, ◌-◌, ◌<◌, ◌≤◌, Bool, true, false, cond, ltb, List, [], ◌∷◌, length, get_or, take, drop, Some, None, Option, unwrap_or, sym, ap, ◌∙◌, ⊎_elim, arith}
+use Rattle.std.specs.List.{prefix_len, between}
+use Rattle.std.specs.Option.{MatchOption}
+use Rattle.std.proofs.lemmas.Bool.{cond-true, cond-false, le-ltb, cond_both, lt-ltb, ltb-true, cases_lt}
+use Rattle.std.proofs.lemmas.List.{drop_more, length-drop, take_rest}
+use Rattle.std.proofs.lemmas.List.Edits.{get_or-between, length-between}
+use Rattle.std.proofs.lemmas.List.Sums.{prefix_len_is}
 use Rattle.screen.specs.Cells.{Cell, blank}
-use Rattle.screen.specs.Grid.{Grid, Sound}
-use Rattle.edit.specs.declared.edits.Reach.{Reach}
-use Rattle.edit.specs.View.{View, size}
-use Rattle.edit.specs.Parts.{is_open, room, run}
+use Rattle.screen.specs.Grid.{Grid}
+use Rattle.edit.specs.View.{size}
 use Rattle.edit.specs.Writing.{is_protected, open_from, first_open, any_open}
 
 -- the first cell of a part, and the others
-pub part_more : (cs : List Cell) (at end : ℕ) → at < end → at < length cs → take (end - at) (drop at cs) ≡ get_or cs at blank ∷ take (end - (at + 1)) (drop (at + 1) cs)
+pub part_more : (cs : List Cell) (at end : ℕ) → at < end → at < length cs → between at end cs ≡ get_or cs at blank ∷ between (at + 1) end cs
 part_more cs at end h l =
     let n : ℕ = end - (at + 1) in
     let s : end - at ≡ suc n = omega arith in
     ap (λ k. take k (drop at cs)) s ∙ ap (take (suc n)) (drop_more cs at blank l)
 
-pub leading_part_yes : (p : Cell → Bool) (cs : List Cell) (at end : ℕ) → at < end → at < length cs → p (get_or cs at blank) ≡ true
-    → prefix_len p (take (end - at) (drop at cs)) ≡ 1 + prefix_len p (take (end - (at + 1)) (drop (at + 1) cs))
-leading_part_yes p cs at end h l t = ap (prefix_len p) (part_more cs at end h l) ∙ cond-true (p (get_or cs at blank)) _ _ t
+-- the answer b of a test at the place k
+abbrev pub Tests : (Cell → Bool) → List Cell → Bool → ℕ → Type 0
+Tests p cs b k = p (get_or cs k blank) ≡ b
 
-pub leading_part_no : (p : Cell → Bool) (cs : List Cell) (at end : ℕ) → at < end → at < length cs → p (get_or cs at blank) ≡ false → prefix_len p (take (end - at) (drop at cs)) ≡ 0
-leading_part_no p cs at end h l t = ap (prefix_len p) (part_more cs at end h l) ∙ cond-false (p (get_or cs at blank)) _ _ t
+-- what a search tells of the places from one on, before the end: those before the one found pass a test, and it does not
+abbrev pub FirstNot : (Cell → Bool) → List Cell → ℕ → ℕ → Option ℕ → Type 0
+FirstNot p cs from end r =
+    MatchOption r ((k : ℕ) → from ≤ k → k < end → Tests p cs true k)
+    (λ i. (from ≤ i) × (i < end) × Tests p cs false i × ((k : ℕ) → from ≤ k → k < i → Tests p cs true k))
 
--- the end of the cursor's row lies on the screen
-pub row_end : (g : Grid) (w p : ℕ) → Sound g → w ≡ g.columns → p < size g → p + (w - p % w) ≤ size g
-row_end g w p s e l =
-    let one : 1 ≤ w = omega (arith, s.column_least) in
-    let n : size g ≡ g.rows * w = s.filled ∙ ap (λ x. g.rows * x) (sym e) in
-    let d : p / w < g.rows = div_below p w g.rows one (omega arith) in
-    let m : (p / w + 1) * w ≤ g.rows * w = mul-le-mul_right w (omega arith) in
-    let q : (p / w + 1) * w ≡ p / w * w + w = add-mul (p / w) 1 w ∙ ap (λ x. p / w * w + x) (one-mul w) in
-    omega (arith, div-add-mod' p w, mod_below p w one)
+stops_at : (p : Cell → Bool) (cs : List Cell) (from end i : ℕ) → from ≤ i → i ≤ end → end ≤ length cs → ((k : ℕ) → from ≤ k → k < i → Tests p cs true k)
+    → (i < end → Tests p cs false i) → i ≡ from + prefix_len p (between from end cs)
+stops_at p cs from end i a b h before at =
+    let long = length-between cs from end h in
+    let here : (k : ℕ) → k < end - from → get_or (between from end cs) k blank ≡ get_or cs (from + k) blank = λ k l. get_or-between cs from end k blank (omega arith) in
+    let on : from + (i - from) ≡ i = omega arith in
+    let n : prefix_len p (between from end cs) ≡ i - from =
+    prefix_len_is p (between from end cs) (i - from) blank (omega (arith, long)) (λ k l. ap p (here k (omega arith)) ∙ before (from + k) (omega arith) (omega arith))
+    (λ l. ap p (here (i - from) (omega (arith, long)) ∙ ap (λ j. get_or cs j blank) on) ∙ at (omega (arith, long))) in
+    omega (arith, n)
 
--- a run lies on the screen
-pub run_within : (r : Reach) (v : View) → v.cursor ≤ size v.grid → v.cursor + run r v ≤ size v.grid
-run_within r v h =
-    let n = room r v in
-    let cs = drop v.cursor v.grid.cells in
-    omega (arith, prefix_len-le-length is_open (take n cs), length-take n cs, length-drop v.cursor v.grid.cells)
+-- so it stops at the end of a run, at the end of all where every cell passes
+pub first_not : (p : Cell → Bool) (cs : List Cell) (from end : ℕ) (r : Option ℕ) → from ≤ end → end ≤ length cs → FirstNot p cs from end r
+    → unwrap_or r end ≡ from + prefix_len p (between from end cs)
+first_not p cs from end None a h f = stops_at p cs from end end a (omega arith) h f (λ l. absurd (omega arith))
+first_not p cs from end (Some i) a h f = stops_at p cs from end i f.0 (omega (arith, f.1)) h f.3 (λ _. f.2)
 
-pub run_is : (r : Reach) (v : View) (n x : ℕ) → v.cursor ≤ size v.grid → n ≡ room r v → x ≡ prefix_len is_open (take n (drop v.cursor v.grid.cells))
-    → (x ≡ run r v) × (v.cursor + x ≤ size v.grid)
-run_is r v n x h e f =
-    let value : x ≡ run r v = f ∙ ap (λ k. prefix_len is_open (take k (drop v.cursor v.grid.cells))) e in
-    (value, omega (arith, run_within r v h))
+pub first_not_all : (p : Cell → Bool) (cs : List Cell) (from end : ℕ) (r : Option ℕ) → from ≤ end → end ≡ length cs → FirstNot p cs from end r
+    → unwrap_or r end ≡ from + prefix_len p (drop from cs)
+first_not_all p cs from end r a h f =
+    first_not p cs from end r a (omega (arith, h)) f
+    ∙ ap (λ n. from + prefix_len p (between from n cs)) h
+    ∙ ap (λ xs. from + prefix_len p xs) (take_rest cs from)
+
+-- the same as an answer, none where every cell passes
+pub first_not_if : (p : Cell → Bool) (cs : List Cell) (from end : ℕ) (r : Option ℕ) → from ≤ end → end ≡ length cs → FirstNot p cs from end r
+    → let n = from + prefix_len p (drop from cs) in r ≡ cond (ltb n (length cs)) (Some n) None
+first_not_if p cs from end None a h f =
+    let n : ℕ = from + prefix_len p (drop from cs) in
+    let e : end ≡ n = first_not_all p cs from end None a h f in
+    sym (cond-false (ltb n (length cs)) (Some n) None (le-ltb n (length cs) (omega arith)))
+first_not_if p cs from end (Some i) a h f =
+    let n : ℕ = from + prefix_len p (drop from cs) in
+    let e : i ≡ n = first_not_all p cs from end (Some i) a h f in
+    ap Some e ∙ sym (cond-true (ltb n (length cs)) (Some n) None (lt-ltb n (length cs) (omega (arith, f.1))))
 
 -- where every cell is protected, so is every cell from a place on
 all_protected : (cs : List Cell) (p : ℕ) → length cs ≤ prefix_len is_protected cs → length (drop p cs) ≤ prefix_len is_protected (drop p cs)
@@ -57,10 +72,20 @@ all_protected (c ∷ cs) (suc p) h =
     all_protected cs p
     (cond_both c.protected (1 + prefix_len is_protected cs) 0 (λ n. suc (length cs) ≤ n → length cs ≤ prefix_len is_protected cs) (λ _ l. omega arith) (λ _ l. omega arith) h)
 
--- the search for an open cell from a place on, going round, finds one where there is any
-pub some_open : (g : Grid) (p : ℕ) → p ≤ size g → ltb (first_open g p) (size g) ≡ any_open g
-some_open g p h =
-    cond_both (ltb (open_from g p) (size g)) (open_from g p) (open_from g 0) (λ n. ltb n (size g) ≡ any_open g)
-    (λ found. found ∙ sym (lt-ltb (open_from g 0) (size g) (⊎_elim (λ l. l)
-    (λ none. absurd (omega (arith, ltb-true _ _ found, all_protected g.cells p (omega arith), length-drop p g.cells))) (cases_lt (open_from g 0) (size g)))))
-    (λ _. refl)
+-- the first open cell at or after a place, if any
+abbrev pub placed : Grid → ℕ → Option ℕ
+placed g p = cond (ltb (open_from g p) (size g)) (Some (open_from g p)) None
+
+-- so the search from a place on and then from the first finds one where there is any
+pub next_is : (g : Grid) (p : ℕ) (a r : Option ℕ) → p ≤ size g → a ≡ placed g p → MatchOption a (r ≡ placed g 0) (λ x. r ≡ Some x)
+    → r ≡ cond (any_open g) (Some (first_open g p)) None
+next_is g p a r h e m =
+    cond_both (ltb (open_from g p) (size g)) (open_from g p) (open_from g 0) (λ n. r ≡ cond (any_open g) (Some n) None)
+    (λ found.
+    let any : any_open g ≡ true = lt-ltb (open_from g 0) (size g) (⊎_elim (λ l. l)
+    (λ none. absurd (omega (arith, ltb-true _ _ found, all_protected g.cells p (omega arith), length-drop p g.cells))) (cases_lt (open_from g 0) (size g))) in
+    let some : a ≡ Some (open_from g p) = e ∙ cond-true (ltb (open_from g p) (size g)) _ _ found in
+    (rw some at m) ∙ sym (cond-true (any_open g) (Some (open_from g p)) None any))
+    (λ lost.
+    let none : a ≡ None = e ∙ cond-false (ltb (open_from g p) (size g)) _ _ lost in
+    rw none at m)

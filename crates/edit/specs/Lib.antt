@@ -1,4 +1,5 @@
 pub mod View
+pub mod Shown
 pub mod Moves
 pub mod Parts
 pub mod Edits

@@ -1,68 +1,77 @@
 // Carries out edits.
-ghost use Rattle.std.specs.Prelude.{◌≡◌, ◌<◌};
-ghost use Rattle.edit.specs.View.{size, view, at};
+ghost use Rattle.std.specs.Prelude.{◌≡◌};
+ghost use Rattle.edit.specs.View.{view, at};
 ghost use Rattle.edit.specs.Moves.{addressed};
-ghost use Rattle.edit.specs.Edits.{redrawn, edited};
+ghost use Rattle.edit.specs.Edits.{edited};
 
 use crate::cell::{cell_count, on_screen};
 use crate::edits::{Change, Edit};
-use crate::moves::move_cursor;
-use crate::parts::{delete, erase, erase_open, insert, run_length};
+use crate::view::View;
 use screen::interface::Screen;
 
-// Changes cells at the cursor.
-fn change_cells<S: Screen>(screen: &mut S, cursor: usize, change: Change)
-    requires { cursor < size (S.grid screen.old) }
-    ensures rest { S.rest screen.new ≡ S.rest screen.old }
-    ensures grid { S.grid screen.new ≡ redrawn change (view (S.grid screen.old) cursor) }
-{
-    let columns = screen.columns();
-    let left = cell_count(screen) - cursor;
-    match change {
-        Change::InsertRow => {
-            let _ = screen.insert_row(cursor / columns);
+impl<'s, S: Screen> View<'s, S> {
+    ghost use Rattle.edit.specs.Edits.{redrawn};
+    ghost use Rattle.edit.specs.Shown.{shown, beside};
+
+    // Changes cells at the cursor.
+    fn change(&mut self, change: Change)
+        ensures beside { beside self.new ≡ beside self.old }
+        ensures view { shown self.new ≡ view (redrawn change (shown self.old)) self.old.cursor }
+    {
+        let row = self.cursor / self.screen.columns();
+        let end = cell_count(self.screen);
+        match change {
+            Change::InsertRow => {
+                let _ = self.screen.insert_row(row);
+            }
+            Change::RemoveRow => {
+                let _ = self.screen.remove_row(row);
+            }
+            Change::EraseAll => self.erase(end),
+            Change::EraseOpen => self.erase_open(end),
+            Change::Erase(reach) => self.erase(self.run_end(reach)),
+            Change::Delete(reach) => self.delete(self.run_end(reach)),
+            Change::Insert(reach) => self.insert(self.run_end(reach)),
         }
-        Change::RemoveRow => {
-            let _ = screen.remove_row(cursor / columns);
+    }
+
+    // Carries out an edit.
+    pub fn apply(&mut self, edit: Edit)
+        ensures beside { beside self.new ≡ beside self.old }
+        ensures view { shown self.new ≡ edited edit (shown self.old) }
+    {
+        match edit {
+            Edit::Move(motion) => self.cursor = self.moved(motion),
+            Edit::Change(change) => self.change(change),
         }
-        Change::EraseAll => erase(screen, cursor, left),
-        Change::EraseOpen => erase_open(screen, cursor, left),
-        Change::Erase(reach) => {
-            let count = run_length(screen, cursor, reach);
-            erase(screen, cursor, count);
-        }
-        Change::Delete(reach) => {
-            let count = run_length(screen, cursor, reach);
-            delete(screen, cursor, count);
-        }
-        Change::Insert(reach) => {
-            let count = run_length(screen, cursor, reach);
-            insert(screen, cursor, count);
+    }
+
+    // Goes to a row and a column, counted from 0; off the screen there is no move.
+    #[tactic(auto, using(crate::proofs::Sizes::placed_on))]
+    pub fn move_to(&mut self, row: u8, column: u8)
+        ensures beside { beside self.new ≡ beside self.old }
+        ensures view { shown self.new ≡ addressed row column (shown self.old) }
+    {
+        if let Ok(place) = self.screen.place(row as usize, column as usize) {
+            self.cursor = place;
         }
     }
 }
 
-// Carries out an edit, and answers where the cursor is then.
+// Carries out one edit with the cursor at a place, and answers where it is then.
 pub fn apply<S: Screen>(screen: &mut S, cursor: usize, edit: Edit) -> usize
     ensures rest { S.rest screen.new ≡ S.rest screen.old }
     ensures view { view (S.grid screen.new) result ≡ edited edit (at (S.grid screen.old) cursor) }
 {
-    let place = on_screen(screen, cursor);
-    match edit {
-        Edit::Move(motion) => move_cursor(screen, place, motion),
-        Edit::Change(change) => {
-            change_cells(screen, place, change);
-            place
-        }
-    }
+    let mut view = View::at(screen, cursor);
+    view.apply(edit);
+    view.cursor()
 }
 
-// Where an address takes the cursor: its row and column count from 0, and off the screen there is no move.
+// Where an address takes the cursor.
 pub fn move_to<S: Screen>(screen: &S, cursor: usize, row: u8, column: u8) -> usize
     ensures { view (S.grid screen.now) result ≡ addressed row column (at (S.grid screen.now) cursor) }
 {
-    match screen.place(row as usize, column as usize) {
-        Ok(place) => place,
-        Err(_) => on_screen(screen, cursor),
-    }
+    let place = on_screen(screen, cursor);
+    screen.place(row as usize, column as usize).unwrap_or(place)
 }

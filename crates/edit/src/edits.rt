@@ -3,13 +3,13 @@ ghost use Rattle.std.specs.Prelude.{◌≡◌};
 ghost use Rattle.edit.specs.Edits.{of_letter};
 
 // How far a run of open cells from the cursor on may go.
-#[derive(Clone, Copy)]
+#[derive(Clone, Copy, PartialEq, Eq, Debug)]
 pub enum Reach {
     Row,
     Display,
 }
 
-#[derive(Clone, Copy)]
+#[derive(Clone, Copy, PartialEq, Eq, Debug)]
 pub enum Motion {
     Home,
     Up,
@@ -22,7 +22,7 @@ pub enum Motion {
     Tab,
 }
 
-#[derive(Clone, Copy)]
+#[derive(Clone, Copy, PartialEq, Eq, Debug)]
 pub enum Change {
     InsertRow,
     RemoveRow,
@@ -38,7 +38,7 @@ pub enum Change {
     Insert(Reach),
 }
 
-#[derive(Clone, Copy)]
+#[derive(Clone, Copy, PartialEq, Eq, Debug)]
 pub enum Edit {
     Move(Motion),
     Change(Change),

@@ -8,4 +8,5 @@ pub mod laws;
 mod moves;
 mod parts;
 pub mod store;
+pub mod view;
 pub mod write;

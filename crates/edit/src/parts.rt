@@ -1,95 +1,105 @@
-// Changes of some cells of a screen, and the runs of open cells that they go over.
-ghost use Rattle.std.specs.Prelude.{◌≡◌, ◌+◌, ◌-◌, ◌<◌, ◌≤◌, take, drop};
-ghost use Rattle.std.specs.List.{prefix_len};
-ghost use Rattle.edit.specs.View.{size, view};
-ghost use Rattle.edit.specs.Parts.{redraw, erased, open_erased, deleted, pushed, is_open, run};
+// Changes of the cells from the cursor to an end, and the runs of open cells that they go over.
+ghost use Rattle.std.specs.Prelude.{◌≡◌, ◌+◌, ◌-◌, ◌≤◌, true, if◌then◌else◌, nat_lt, slice_index_or};
+ghost use Rattle.screen.specs.Cells.{cell, blank, storable};
 
 use crate::cell::{cell_at, cell_count};
 use crate::edits::Reach;
+use crate::view::View;
 use codes::SPACE;
 use screen::interface::Screen;
 
-// How many open cells stand in a row from a place on, before the end.
-fn open_cells<S: Screen>(screen: &S, from: usize, end: usize) -> usize
-    requires { (from ≤ end) × (end ≤ size (S.grid screen.now)) }
-    ensures { result ≡ prefix_len is_open (take (end - from) (drop from (S.grid screen.now).cells)) }
+// The cell at a place before the end; from there on an open space.
+#[tactic(auto, using(screen::proofs::Cells::space_storable))]
+fn cell_before<S: Screen>(screen: &S, place: usize, end: usize) -> (u8, bool)
+    ensures value { cell result.0 result.1 ≡ (if nat_lt place end then slice_index_or (S.grid screen.now).cells place blank else blank) }
+    ensures stored { storable result.0 ≡ true }
 {
-    let mut at = from;
-    while at < end && !cell_at(screen, at).1 {
-        at += 1;
-    }
-    at - from
-}
-
-// How many cells the run at the cursor has.
-pub(crate) fn run_length<S: Screen>(screen: &S, cursor: usize, reach: Reach) -> usize
-    requires { cursor < size (S.grid screen.now) }
-    ensures value { result ≡ run reach (view (S.grid screen.now) cursor) }
-    ensures within { cursor + result ≤ size (S.grid screen.now) }
-{
-    match reach {
-        Reach::Row => {
-            let columns = screen.columns();
-            open_cells(screen, cursor, cursor + (columns - cursor % columns))
-        }
-        Reach::Display => open_cells(screen, cursor, cell_count(screen)),
+    if place < end {
+        cell_at(screen, place)
+    } else {
+        (SPACE, false)
     }
 }
 
-// Makes so many cells open spaces.
-pub(crate) fn erase<S: Screen>(screen: &mut S, from: usize, count: usize)
-    requires { from + count ≤ size (S.grid screen.old) }
-    ensures rest { S.rest screen.new ≡ S.rest screen.old }
-    ensures grid { S.grid screen.new ≡ redraw (S.grid screen.old) from count erased }
-{
-    let end = from + count;
-    for k in from..end {
-        let _ = screen.write(k, SPACE, false);
-    }
-}
+impl<'s, S: Screen> View<'s, S> {
+    ghost use Rattle.edit.specs.View.{view, size};
+    ghost use Rattle.edit.specs.Shown.{shown, beside};
+    ghost use Rattle.edit.specs.Parts.{redraw, erased, open_erased, deleted, pushed, room, run};
 
-// Makes the open ones among so many cells spaces.
-pub(crate) fn erase_open<S: Screen>(screen: &mut S, from: usize, count: usize)
-    requires { from + count ≤ size (S.grid screen.old) }
-    ensures rest { S.rest screen.new ≡ S.rest screen.old }
-    ensures grid { S.grid screen.new ≡ redraw (S.grid screen.old) from count open_erased }
-{
-    let end = from + count;
-    for k in from..end {
-        if !cell_at(screen, k).1 {
-            let _ = screen.write(k, SPACE, false);
+    // The end of the cursor's row, or of the display.
+    fn room_end(&self, reach: Reach) -> usize
+        ensures value { result ≡ self.now.cursor + room reach (shown self.now) }
+        ensures within { result ≤ size (shown self.now).grid }
+    {
+        match reach {
+            Reach::Row => {
+                let columns = self.screen.columns();
+                self.cursor + (columns - self.cursor % columns)
+            }
+            Reach::Display => cell_count(self.screen),
         }
     }
-}
 
-// Deletes the first of so many cells, and adds a space behind the last.
-pub(crate) fn delete<S: Screen>(screen: &mut S, from: usize, count: usize)
-    requires { from + count ≤ size (S.grid screen.old) }
-    ensures rest { S.rest screen.new ≡ S.rest screen.old }
-    ensures grid { S.grid screen.new ≡ redraw (S.grid screen.old) from count deleted }
-{
-    let end = from + count;
-    for k in from..end {
-        let next = if k + 1 < end {
-            cell_at(screen, k + 1)
-        } else {
-            (SPACE, false)
-        };
-        let _ = screen.write(k, next.0, next.1);
+    // The end of the run at the cursor: the first protected cell, or else the end of its row, or of the display.
+    pub(crate) fn run_end(&self, reach: Reach) -> usize
+        ensures value { result ≡ self.now.cursor + run reach (shown self.now) }
+        ensures within { result ≤ size (shown self.now).grid }
+    {
+        let screen = &*self.screen;
+        let end = self.room_end(reach);
+        (self.cursor..end)
+            .find(|place| cell_at(screen, *place).1)
+            .unwrap_or(end)
     }
-}
 
-// Puts a space before so many cells, and loses the last.
-pub(crate) fn insert<S: Screen>(screen: &mut S, from: usize, count: usize)
-    requires { from + count ≤ size (S.grid screen.old) }
-    ensures rest { S.rest screen.new ≡ S.rest screen.old }
-    ensures grid { S.grid screen.new ≡ redraw (S.grid screen.old) from count pushed }
-{
-    let end = from + count;
-    let mut before = (SPACE, false);
-    for k in from..end {
-        let here = cell_at(screen, k);
-        let _ = screen.write(k, before.0, before.1);
-        before = here;
+    // Makes the cells before the end open spaces.
+    pub(crate) fn erase(&mut self, end: usize)
+        requires { (self.old.cursor ≤ end) × (end ≤ size (shown self.old).grid) }
+        ensures beside { beside self.new ≡ beside self.old }
+        ensures view { shown self.new ≡ view (redraw (shown self.old).grid self.old.cursor (end - self.old.cursor) erased) self.old.cursor }
+    {
+        for k in self.cursor..end {
+            let _ = self.screen.write(k, SPACE, false);
+        }
+    }
+
+    // Makes the open ones among them spaces.
+    pub(crate) fn erase_open(&mut self, end: usize)
+        requires { (self.old.cursor ≤ end) × (end ≤ size (shown self.old).grid) }
+        ensures beside { beside self.new ≡ beside self.old }
+        ensures view { shown self.new ≡ view (redraw (shown self.old).grid self.old.cursor (end - self.old.cursor) open_erased) self.old.cursor }
+    {
+        for k in self.cursor..end {
+            if !cell_at(self.screen, k).1 {
+                let _ = self.screen.write(k, SPACE, false);
+            }
+        }
+    }
+
+    // Deletes the first of them, and adds a space behind the last.
+    pub(crate) fn delete(&mut self, end: usize)
+        requires { (self.old.cursor ≤ end) × (end ≤ size (shown self.old).grid) }
+        ensures beside { beside self.new ≡ beside self.old }
+        ensures view { shown self.new ≡ view (redraw (shown self.old).grid self.old.cursor (end - self.old.cursor) deleted) self.old.cursor }
+    {
+        for k in self.cursor..end {
+            let (code, protected) = cell_before(self.screen, k + 1, end);
+            let _ = self.screen.write(k, code, protected);
+        }
+    }
+
+    // Puts a space before them, and loses the last.
+    pub(crate) fn insert(&mut self, end: usize)
+        requires { (self.old.cursor ≤ end) × (end ≤ size (shown self.old).grid) }
+        ensures beside { beside self.new ≡ beside self.old }
+        ensures view { shown self.new ≡ view (redraw (shown self.old).grid self.old.cursor (end - self.old.cursor) pushed) self.old.cursor }
+    {
+        let mut before = (SPACE, false);
+        for k in self.cursor..end {
+            let here = cell_at(self.screen, k);
+            let (code, protected) = before;
+            let _ = self.screen.write(k, code, protected);
+            before = here;
+        }
     }
 }

@@ -1,72 +1,69 @@
 // The keys that store a character.
-ghost use Rattle.std.specs.Prelude.{◌≡◌, ◌<◌, ◌≤◌, IfSome, if◌then◌else◌, Some, None};
+ghost use Rattle.std.specs.Prelude.{◌≡◌, ◌<◌, ◌≤◌, nat_lt, IfSome, if◌then◌else◌, Some, None};
 ghost use Rattle.edit.specs.View.{size, at};
 ghost use Rattle.edit.specs.Writing.{open_from, first_open, any_open, stored};
 
 use crate::cell::{cell_at, cell_count, on_screen};
 use crate::moves::round;
+use crate::view::View;
 use screen::interface::Screen;
 
-// The first open cell at or after a place, or else the number of cells.
-fn open_from<S: Screen>(screen: &S, from: usize) -> usize
+// The first open cell at or after a place, if any.
+fn open_from<S: Screen>(screen: &S, from: usize) -> Option<usize>
     requires { from ≤ size (S.grid screen.now) }
-    ensures { result ≡ open_from (S.grid screen.now) from }
+    ensures { result ≡ (if nat_lt (open_from (S.grid screen.now) from) (size (S.grid screen.now)) then Some (open_from (S.grid screen.now) from) else None) }
 {
-    let end = cell_count(screen);
-    let mut at = from;
-    while at < end && cell_at(screen, at).1 {
-        at += 1;
-    }
-    at
+    (from..cell_count(screen)).find(|place| !cell_at(screen, *place).1)
 }
 
 // The same, going round.
-fn first_open<S: Screen>(screen: &S, from: usize) -> usize
-    requires { from ≤ size (S.grid screen.now) }
-    ensures { result ≡ first_open (S.grid screen.now) from }
-{
-    let found = open_from(screen, from);
-    if found < cell_count(screen) {
-        found
-    } else {
-        open_from(screen, 0)
-    }
-}
-
-// The same, if any cell is open.
 fn next_open<S: Screen>(screen: &S, from: usize) -> Option<usize>
     requires { from ≤ size (S.grid screen.now) }
     ensures value { result ≡ (if any_open (S.grid screen.now) then Some (first_open (S.grid screen.now) from) else None) }
     ensures on { IfSome result (λ place. place < size (S.grid screen.now)) }
 {
-    let found = first_open(screen, from);
-    if found < cell_count(screen) {
-        Some(found)
-    } else {
-        None
-    }
+    open_from(screen, from).or_else(|| open_from(screen, 0))
 }
 
 // Whether any cell is open. The search begins at the cursor, where one is likely.
 pub fn any_open<S: Screen>(screen: &S, cursor: usize) -> bool
     ensures { result ≡ any_open (S.grid screen.now) }
 {
-    match next_open(screen, on_screen(screen, cursor)) {
-        Some(_) => true,
-        None => false,
+    next_open(screen, on_screen(screen, cursor)).is_some()
+}
+
+impl<'s, S: Screen> View<'s, S> {
+    ghost use Rattle.edit.specs.Shown.{shown, beside};
+
+    // Stores a character in the first open cell at or after the cursor, which goes to the next one, both going round. The
+    // answer tells whether any cell is open; where none is, nothing is stored.
+    pub fn store(&mut self, code: u8) -> bool
+        ensures beside { beside self.new ≡ beside self.old }
+        ensures answer { result ≡ any_open (shown self.old).grid }
+        ensures view { shown self.new ≡ (if any_open (shown self.old).grid then stored code (shown self.old) else shown self.old) }
+    {
+        let count = cell_count(self.screen);
+        let Some(place) = next_open(self.screen, self.cursor) else {
+            return false;
+        };
+        let next = next_open(self.screen, round(place + 1, count)).unwrap_or(place);
+        let _ = self.screen.write(place, code, false);
+        self.cursor = next;
+        true
     }
 }
 
-// Stores a character in the first open cell at or after the cursor and answers the place of the next one, both going
-// round; none where every cell is protected, and then nothing is stored.
+// Stores one character with the cursor at a place, and answers the place of the next one; none where every cell is
+// protected, and then nothing is stored.
 pub fn store<S: Screen>(screen: &mut S, cursor: usize, code: u8) -> Option<usize>
     ensures rest { S.rest screen.new ≡ S.rest screen.old }
     ensures answer { result ≡ (if any_open (S.grid screen.old) then Some (stored code (at (S.grid screen.old) cursor)).cursor else None) }
     ensures grid { S.grid screen.new ≡ (if any_open (S.grid screen.old) then (stored code (at (S.grid screen.old) cursor)).grid else S.grid screen.old) }
 {
-    let count = cell_count(screen);
-    let place = next_open(screen, on_screen(screen, cursor))?;
-    let next = first_open(screen, round(place + 1, count));
-    let _ = screen.write(place, code, false);
-    Some(next)
+    let mut view = View::at(screen, cursor);
+    if view.store(code) {
+        Some(view.cursor())
+    } else {
+        None
+    }
 }

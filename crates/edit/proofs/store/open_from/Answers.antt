@@ -1,20 +1,14 @@
-use Rattle.std.proofs.Common.{sym, ap, ◌∙◌, arith}
-use Rattle.std.proofs.lemmas.List.Sums.{prefix_len-drop_yes, prefix_len-drop_no, prefix_len-drop_all}
-use Rattle.screen.specs.Cells.{blank}
+use Rattle.std.proofs.Common.{true, false, arith, rules}
+use Rattle.std.proofs.lemmas.Iterator.{first_from_Range}
 use Rattle.edit.specs.Writing.{is_protected}
+use Rattle.edit.proofs.Runs.{Tests, FirstNot, first_not_if}
 use Rattle.edit.proofs.store.open_from.Goals as goal
 
-pub loop-at-preserved : goal.loop-at-preserved
-loop-at-preserved g c =
+pub returns : goal.returns
+returns g c =
     let cs = (g.S.Screen.grid c.args.screen.now).cells in
-    omega (arith, prefix_len-drop_yes is_protected cs c.loop-at.at blank (omega arith) (sym (ap is_protected c.cell_at.ensures.value) ∙ c.if-cell_at.true), c.loop-at.invariant)
-
-pub returns-else-cell_at : goal.returns-else-cell_at
-returns-else-cell_at g c =
-    let cs = (g.S.Screen.grid c.args.screen.now).cells in
-    omega (arith, prefix_len-drop_no is_protected cs c.loop-at.at blank (omega arith) (sym (ap is_protected c.cell_at.ensures.value) ∙ c.if-cell_at.false), c.loop-at.invariant)
-
-pub returns-after-loop-at : goal.returns-after-loop-at
-returns-after-loop-at g c =
-    let cs = (g.S.Screen.grid c.args.screen.now).cells in
-    omega (arith, prefix_len-drop_all is_protected cs c.loop-at.at (omega arith), c.loop-at.invariant)
+    let end = c.cell_count.result in
+    let r = c.find.result in
+    let found : FirstNot is_protected cs c.args.from end r =
+    first_from_Range _ _ _ r (Tests is_protected cs false) (Tests is_protected cs true) c.find.ensures.ran (λ x q k. search rules) (λ x q k. search rules) in
+    first_not_if is_protected cs c.args.from end r (omega arith) (omega arith) found
