@@ -31,10 +31,6 @@ pub end_more : (n i : ℕ) (os : List ℕ) (c : Cell) (rest : List ℕ) → i < 
     → end_of (cells_in (n - i) os) ≡ end_of (cells_in (n - (i + 1)) rest)
 end_more n i os c rest l h = ap end_of (cells_more n i os c rest l h) ∙ end_with_cell c (cells_in (n - (i + 1)) rest)
 
--- all of them are read
-pub cells_all : (n i : ℕ) (os : List ℕ) → n ≤ i → cells_in (n - i) os ≡ Ok (read [] os)
-cells_all n i os l = let none : n - i ≡ 0 = omega arith in ap (λ m. cells_in m os) none
-
 -- as many as were asked for
 pub cells_count : (n : ℕ) (os : List ℕ) (r : Read (List Cell)) → cells_in n os ≡ Ok r → length r.value ≡ n
 cells_count zero os r h = let e : read [] os ≡ r = cc in ap (λ (x : Read (List Cell)). length x.value) (sym e)

@@ -1,8 +1,8 @@
 -- Cells written to a screen one after another.
-use Rattle.std.proofs.Common.{◌≡◌, ℕ, ◌+◌, ◌-◌, ◌<◌, ◌≤◌, List, [], ◌∷◌, ◌++◌, length, get_or, take, drop, set, Ok, Err, Result, sym, refl, ap, ◌∙◌, arith}
-use Rattle.std.proofs.lemmas.List.{take_more, take_all, drop_all, drop_more, length-take-le, append-nil}
-use Rattle.area.specs.Over.{over}
-use Rattle.area.proofs.Areas.{length_over, over_push}
+use Rattle.std.proofs.Common.{◌≡◌, ℕ, ◌+◌, ◌-◌, ◌<◌, List, [], ◌∷◌, ◌++◌, length, get_or, drop, set, Ok, Err, Result, sym, refl, ap, ◌∙◌, arith}
+use lib.Seq.{paste}
+use Rattle.std.proofs.lemmas.List.{drop_all, drop_more, append-nil}
+use Rattle.std.proofs.lemmas.List.Edits.{paste_none, paste_more, paste_all, length-paste}
 use Rattle.screen.specs.Cells.{Cell}
 use Rattle.screen.specs.Grid.{Grid, with_cells, written}
 use Rattle.screen.proofs.Grids.{writes}
@@ -17,7 +17,7 @@ pub record Drawing (g : Grid) (cs : List Cell) (n : ℕ) (os : List ℕ) (i : �
   pub ahead : cells_in (n - i) os ≡ Ok (read (drop i cs) [])
   pub many : length cs ≡ n
   pub sized : length g.cells ≡ n
-  pub shown : v ≡ with_cells g (over (take i cs) g.cells)
+  pub shown : v ≡ with_cells g (paste g.cells 0 cs i)
 
 pub drawing_none : (g : Grid) (cs : List Cell) (n : ℕ) (os : List ℕ) → cells_in n os ≡ Ok (read cs []) → n ≡ length g.cells → Drawing g cs n os 0 g
 drawing_none g cs n os h e =
@@ -26,7 +26,7 @@ drawing_none g cs n os h e =
       ahead = ap (λ m. cells_in m os) all ∙ h;
       many = cells_count n os (read cs []) h;
       sized = sym e;
-      shown = refl;
+      shown = ap (with_cells g) (paste_none g.cells 0 cs);
     }
 
 -- the next cell was read and written
@@ -46,15 +46,11 @@ module _ (g : Grid) (cs : List Cell) (n : ℕ) (os : List ℕ) (i : ℕ) (v : Gr
       let s = step c r.rest h in
       let t = with_cell_inv c (cells_in (n - (i + 1)) r.rest) (drop i cs) (sym (cells_more n i os c r.rest l h) ∙ d.ahead) in
       let m = drop_more cs i c (omega (arith, d.many)) in
-      let this : c ≡ get_or cs i c = cc in
       let those : t.0 ≡ drop (i + 1) cs = cc in
-      let front : length (take i cs) ≡ i = length-take-le i cs (omega (arith, d.many)) in
-      let big : length (over (take i cs) g.cells) ≡ n = length_over (take i cs) g.cells (omega (arith, d.sized)) ∙ d.sized in
-      let taken : take i cs ++ (c ∷ []) ≡ take (i + 1) cs = ap (λ x. take i cs ++ (x ∷ [])) this ∙ sym (take_more cs i c (omega (arith, d.many))) in
-      let put : set (over (take i cs) g.cells) i c ≡ over (take (i + 1) cs) g.cells =
-      ap (λ k. set (over (take i cs) g.cells) k c) (sym front)
-      ∙ over_push (take i cs) g.cells c (omega (arith, d.sized))
-      ∙ ap (λ xs. over xs g.cells) taken in
+      let here : 0 + i ≡ i = omega arith in
+      let p = paste_more g.cells 0 cs i c (omega (arith, d.sized)) (omega (arith, d.many)) in
+      let put : set (paste g.cells 0 cs i) i c ≡ paste g.cells 0 cs (i + 1) = cc in
+      let big = length-paste g.cells 0 cs i (omega (arith, d.sized)) (omega (arith, d.many)) in
       record {
         ahead = ap (cells_in (n - (i + 1))) s.0 ∙ t.1 ∙ ap (λ xs. Ok (read xs [])) those;
         many = d.many;
@@ -62,7 +58,7 @@ module _ (g : Grid) (cs : List Cell) (n : ℕ) (os : List ℕ) (i : ℕ) (v : Gr
         shown =
             s.1
             ∙ ap (λ x. written x i c.code c.protected) d.shown
-            ∙ writes (with_cells g (over (take i cs) g.cells)) i c.code c.protected (omega (arith, big)) (cell_storable os r h)
+            ∙ writes (with_cells g (paste g.cells 0 cs i)) i c.code c.protected (omega (arith, big, d.sized)) (cell_storable os r h)
             ∙ ap (with_cells g) put;
       }
 
@@ -71,10 +67,9 @@ module _ (g : Grid) (cs : List Cell) (n : ℕ) (os : List ℕ) (i : ℕ) (v : Gr
   unfolding Stepped
   drawing_more step = by_cell (cell_in os) refl step
 
-pub drawing_all : (g : Grid) (cs : List Cell) (n : ℕ) (os : List ℕ) (i : ℕ) (v : Grid) → n ≤ i → Drawing g cs n os i v → v ≡ with_cells g cs
-drawing_all g cs n os i v l d =
-    let all : take i cs ≡ cs = take_all i cs (omega (arith, d.many)) in
+pub drawing_all : (g : Grid) (cs : List Cell) (n : ℕ) (os : List ℕ) (i : ℕ) (v : Grid) → i ≡ n → Drawing g cs n os i v → v ≡ with_cells g cs
+drawing_all g cs n os i v e d =
     d.shown
-    ∙ ap (λ xs. with_cells g (over xs g.cells)) all
-    ∙ ap (λ xs. with_cells g (cs ++ xs)) (drop_all (length cs) g.cells (omega (arith, d.many, d.sized)))
+    ∙ ap (with_cells g) (paste_all g.cells 0 cs i (omega (arith, d.many)))
+    ∙ ap (λ xs. with_cells g (cs ++ xs)) (drop_all (0 + i) g.cells (omega (arith, d.sized)))
     ∙ ap (with_cells g) (append-nil cs)
