@@ -44,21 +44,17 @@ second_back a (o ∷ os) r l u b h =
     let least : 0 < o = ltb-true 0 o t.0 in
     let most : o < 128 = ltb-true o 128 t.1 in
     let low : 128 + n % 128 ≡ a = omega arith in
-    let high : n / 128 ≡ o = omega arith in (
-      ap (λ (x : Read ℕ). number x.value ++ x.rest) (sym k.1)
-          ∙ ap (λ t. t ++ os) (large_number n (omega arith))
-          ∙ ap (λ x. x ∷ (n / 128) ∷ os) low
-          ∙ ap (λ x. a ∷ x ∷ os) high,
-      λ i. subst (λ (x : Read ℕ). get_or x.rest i 0 < 256) k.1 (b (suc i)),
-    )
+    let high : n / 128 ≡ o = omega arith in
+    let large = large_number n (omega arith) in
+    let whole = k.1 in
+    (cc, λ i. subst (λ (x : Read ℕ). get_or x.rest i 0 < 256) k.1 (b (suc i)))
 
 first_back : (a : ℕ) (os : List ℕ) (r : Read ℕ) → a < 128 → Bytes os → cond (ltb a 128) (Ok (read a os)) (second_group a os) ≡ Ok r
     → (number r.value ++ r.rest ≡ a ∷ os) × Bytes r.rest
 first_back a os r l b h =
-    let e : read a os ≡ r = (cond_inv true (read a os) r WrongNumber (sym (cond-true (ltb a 128) _ _ (lt-ltb a 128 l)) ∙ h)).1 in (
-      ap (λ (x : Read ℕ). number x.value ++ x.rest) (sym e) ∙ ap (λ t. t ++ os) (small_number a l),
-      λ i. subst (λ (x : Read ℕ). get_or x.rest i 0 < 256) e (b i),
-    )
+    let e : read a os ≡ r = (cond_inv true (read a os) r WrongNumber (sym (cond-true (ltb a 128) _ _ (lt-ltb a 128 l)) ∙ h)).1 in
+    let small = small_number a l in
+    (cc, λ i. subst (λ (x : Read ℕ). get_or x.rest i 0 < 256) e (b i))
 
 pub number_back : (os : List ℕ) (r : Read ℕ) → Bytes os → first_number os ≡ Ok r → (number r.value ++ r.rest ≡ os) × Bytes r.rest
 number_back [] r b h = let z : ◌≡◌ {A = ℕ} 0 1 = cc in absurd (omega arith)

@@ -157,9 +157,5 @@ page_shown os k g after f size e =
     record {
       grid = e ∙ sym (ap (λ (d : Drawn). d.grid) read);
       answer = sym (ap (λ (d : Drawn). d.answer) read);
-      same =
-          ap (λ v. octets_at v h.cursor) e
-          ∙ ap (λ r. page_octets (record { rows = r; columns = g.columns; cursor = h.cursor; cells = f.cells })) (sym (eqb-true _ _ t.0))
-          ∙ ap (λ w. page_octets (record { rows = h.rows; columns = w; cursor = h.cursor; cells = f.cells })) (sym (eqb-true _ _ t.1))
-          ∙ f.same;
+      same = let rows = eqb-true _ _ t.0 in let columns = eqb-true _ _ t.1 in let same = f.same in cc;
     }

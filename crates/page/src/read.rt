@@ -47,8 +47,7 @@ impl<'a> Checked<'a> {
         ensures rest { S.rest screen.new ≡ S.rest screen.old }
         ensures shown { (os : List ℕ) → Found os self.entry → Shown os (S.grid screen.old) result (S.grid screen.new) }
     {
-        let count = screen.rows() * screen.columns();
-        draw(self.cells, count, screen);
+        draw(self.cells, self.header.rows * self.header.columns, screen);
         self.header.cursor
     }
 }
