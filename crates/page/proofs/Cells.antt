@@ -1,5 +1,5 @@
 -- Cells read one after another.
-use Rattle.std.proofs.Common.{◌≡◌, ℕ, zero, suc, ◌+◌, ◌-◌, ◌<◌, ◌≤◌, List, [], ◌∷◌, length, Ok, Err, Result, sym, refl, ap, ◌∙◌, arith}
+use Rattle.std.proofs.Common.{◌≡◌, ℕ, zero, suc, ◌+◌, ◌-◌, ◌<◌, List, [], ◌∷◌, length, Ok, Err, Result, sym, refl, ap, ◌∙◌, arith}
 use Rattle.screen.specs.Cells.{Cell}
 use Rattle.page.specs.declared.refusal.Refusal.{Refusal}
 use Rattle.page.specs.Numbers.{Read, read, then}
@@ -49,7 +49,7 @@ with_cell_inv c d ds h =
     (t.0.value, t.1 ∙ ap (λ s. Ok (read t.0.value s)) (ap (λ (x : Read (List Cell)). x.rest) e), ap (λ (x : Read (List Cell)). x.value) e)
 
 refused_end : (d : Result (Read (List Cell)) Refusal) (e : Refusal) → end_of d ≡ Err e → d ≡ Err e
-refused_end (Ok r) e h = let z : ◌≡◌ {A = ℕ} 0 1 = cc in absurd (omega arith)
+refused_end (Ok r) e h = absurd (cc)
 refused_end (Err y) e h = cc
 
 -- a refusal of one cell after others

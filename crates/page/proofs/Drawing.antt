@@ -1,5 +1,5 @@
 -- Cells written to a screen one after another.
-use Rattle.std.proofs.Common.{◌≡◌, ℕ, ◌+◌, ◌-◌, ◌<◌, List, [], ◌∷◌, ◌++◌, length, get_or, drop, set, Ok, Err, Result, sym, refl, ap, ◌∙◌, arith}
+use Rattle.std.proofs.Common.{◌≡◌, ℕ, ◌+◌, ◌-◌, ◌<◌, List, [], ◌++◌, length, drop, set, Ok, Err, Result, sym, refl, ap, ◌∙◌, arith}
 use lib.Seq.{paste}
 use Rattle.std.proofs.lemmas.List.{drop_all, drop_more, append-nil}
 use Rattle.std.proofs.lemmas.List.Edits.{paste_none, paste_more, paste_all, length-paste}
@@ -31,16 +31,14 @@ drawing_none g cs n os h e =
 
 -- the next cell was read and written
 module _ (g : Grid) (cs : List Cell) (n : ℕ) (os : List ℕ) (i : ℕ) (v : Grid) (d : Drawing g cs n os i v) (l : i < n) (after : List ℕ) (w : Grid) where
-  Stepped : Type 0
+  abbrev Stepped : Type 0
   Stepped = (c : Cell) (rest : List ℕ) → cell_in os ≡ Ok (read c rest) → (after ≡ rest) × (w ≡ written v i c.code c.protected)
 
   by_cell : (x : Result (Read Cell) Refusal) → cell_in os ≡ x → Stepped → Drawing g cs n after (i + 1) w
-  unfolding Stepped
   by_cell (Err e) h step =
       let r = cells_refused n i os e l h in
       let a = d.ahead in
-      let z : ◌≡◌ {A = ℕ} 0 1 = cc in
-      absurd (omega arith)
+      absurd (cc)
   by_cell (Ok r) h step =
       let c = r.value in
       let s = step c r.rest h in
@@ -62,9 +60,7 @@ module _ (g : Grid) (cs : List Cell) (n : ℕ) (os : List ℕ) (i : ℕ) (v : Gr
             ∙ ap (with_cells g) put;
       }
 
-  pub drawing_more : ((c : Cell) (rest : List ℕ) → cell_in os ≡ Ok (read c rest) → (after ≡ rest) × (w ≡ written v i c.code c.protected))
-      → Drawing g cs n after (i + 1) w
-  unfolding Stepped
+  pub drawing_more : Stepped → Drawing g cs n after (i + 1) w
   drawing_more step = by_cell (cell_in os) refl step
 
 pub drawing_all : (g : Grid) (cs : List Cell) (n : ℕ) (os : List ℕ) (i : ℕ) (v : Grid) → i ≡ n → Drawing g cs n os i v → v ≡ with_cells g cs

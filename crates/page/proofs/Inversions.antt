@@ -1,5 +1,5 @@
 -- What a reading that was not refused says of its parts.
-use Rattle.std.proofs.Common.{◌≡◌, ℕ, ◌%◌, Bool, true, false, cond, List, [], length, Ok, Err, Result, sym, refl, ap, ◌∙◌, arith}
+use Rattle.std.proofs.Common.{◌≡◌, ℕ, ◌%◌, Bool, true, false, cond, List, [], length, Ok, Err, Result, sym, refl, ap, ◌∙◌}
 use Rattle.std.proofs.lemmas.List.{nil_from_length}
 use Rattle.std.proofs.lemmas.Bool.{and_parts}
 use Rattle.screen.specs.Cells.{Cell, storable}
@@ -14,11 +14,11 @@ then_ok d x f h = ap (λ y. then y f) h
 pub then_inv : {A B : Type 0} (d : Result A Refusal) (f : A → Result B Refusal) (y : B) → then d f ≡ Ok y
     → (x : A) × (d ≡ Ok x) × (f x ≡ Ok y)
 then_inv (Ok x) f y h = (x, refl, h)
-then_inv (Err e) f y h = let z : ◌≡◌ {A = ℕ} 0 1 = cc in absurd (omega arith)
+then_inv (Err e) f y h = absurd (cc)
 
 pub cond_inv : {A : Type 0} (b : Bool) (x y : A) (e : Refusal) → cond b (Ok x) (Err e) ≡ Ok y → (b ≡ true) × (x ≡ y)
 cond_inv true x y e h = (refl, cc)
-cond_inv false x y e h = let z : ◌≡◌ {A = ℕ} 0 1 = cc in absurd (omega arith)
+cond_inv false x y e h = absurd (cc)
 
 pub where_inv : (ok : ℕ → Bool) (os : List ℕ) (r : Read ℕ) → first_where ok os ≡ Ok r → (first_number os ≡ Ok r) × (ok r.value ≡ true)
 where_inv ok os r h =

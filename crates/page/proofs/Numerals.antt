@@ -1,6 +1,7 @@
 -- Numbers in groups of seven bits: reading and writing undo each other.
 use Rattle.std.proofs.Common.{◌≡◌, ℕ, suc, ◌+◌, ◌-◌, ◌*◌, ◌/◌, ◌%◌, ◌^◌, ◌<◌, ◌≤◌, Bool, true, cond, ◌&&◌, ltb, List, [], ◌∷◌, ◌++◌, get_or, Ok, Err, sym, ap, ◌∙◌, subst, ⊎_elim, arith}
-use Rattle.std.proofs.lemmas.Bool.{lt-ltb, le-ltb, ltb-true, and_from, and_parts, cond-true, cond-false, cases_lt}
+use Rattle.std.proofs.lemmas.Bool.{lt-ltb, le-ltb, ltb-true, and_parts, cond-true, cond-false, cases_lt}
+use Rattle.std.proofs.lemmas.Bool.Decides.{nat_tests}
 use Rattle.page.specs.declared.refusal.Refusal.TheVariants.{WrongNumber}
 use Rattle.page.specs.Numbers.{number, Read, read, then, first_number, second_group, first_where}
 use Rattle.page.proofs.Inversions.{cond_inv}
@@ -15,15 +16,8 @@ large_number n h = cond-false (ltb n 128) _ _ (le-ltb n 128 h)
 pub reads_number : (n : ℕ) (os : List ℕ) → n < 2 ^ 14 → first_number (number n ++ os) ≡ Ok (read n os)
 reads_number n os l =
     ⊎_elim
-    (λ (s : n < 128). ap (λ t. first_number (t ++ os)) (small_number n s) ∙ cond-true (ltb n 128) _ _ (lt-ltb n 128 s))
-    (λ (s : 128 ≤ n).
-    let high : ltb 0 (n / 128) ≡ true = lt-ltb 0 (n / 128) (omega arith) in
-    let low : ltb (n / 128) 128 ≡ true = lt-ltb (n / 128) 128 (omega arith) in
-    let value : 128 + n % 128 - 128 + 128 * (n / 128) ≡ n = omega arith in
-    ap (λ t. first_number (t ++ os)) (large_number n s)
-    ∙ cond-false (ltb (128 + n % 128) 128) _ _ (le-ltb (128 + n % 128) 128 (omega arith))
-    ∙ cond-true (ltb 0 (n / 128) && ltb (n / 128) 128) _ _ (and_from _ _ high low)
-    ∙ ap (λ v. Ok (read v os)) value)
+    (λ (s : n < 128). rw (small_number n s) (grind (arith, nat_tests)))
+    (λ (s : 128 ≤ n). rw (large_number n s) (grind (arith, nat_tests)))
     (cases_lt n 128)
 
 pub reads_where : (ok : ℕ → Bool) (n : ℕ) (os : List ℕ) → n < 2 ^ 14 → ok n ≡ true → first_where ok (number n ++ os) ≡ Ok (read n os)
@@ -36,7 +30,7 @@ Bytes os = (i : ℕ) → get_or os i 0 < 256
 -- a number that was read is written as it stood
 second_back : (a : ℕ) (os : List ℕ) (r : Read ℕ) → 128 ≤ a → a < 256 → Bytes os → second_group a os ≡ Ok r
     → (number r.value ++ r.rest ≡ a ∷ os) × Bytes r.rest
-second_back a [] r l u b h = let z : ◌≡◌ {A = ℕ} 0 1 = cc in absurd (omega arith)
+second_back a [] r l u b h = absurd (cc)
 second_back a (o ∷ os) r l u b h =
     let n = a - 128 + 128 * o in
     let k = cond_inv (ltb 0 o && ltb o 128) (read n os) r WrongNumber h in
@@ -57,7 +51,7 @@ first_back a os r l b h =
     (cc, λ i. subst (λ (x : Read ℕ). get_or x.rest i 0 < 256) e (b i))
 
 pub number_back : (os : List ℕ) (r : Read ℕ) → Bytes os → first_number os ≡ Ok r → (number r.value ++ r.rest ≡ os) × Bytes r.rest
-number_back [] r b h = let z : ◌≡◌ {A = ℕ} 0 1 = cc in absurd (omega arith)
+number_back [] r b h = absurd (cc)
 number_back (a ∷ os) r b h =
     ⊎_elim
     (λ (s : a < 128). first_back a os r s (λ i. b (suc i)) h)

@@ -131,7 +131,7 @@ header_back os h b e =
 
 ended_inv : (os : List ℕ) (p q : Page) → ended os p ≡ Ok q → (os ≡ []) × (p ≡ q)
 ended_inv [] p q h = (refl, cc)
-ended_inv (o ∷ os) p q h = let z : ◌≡◌ {A = ℕ} 0 1 = cc in absurd (omega arith)
+ended_inv (o ∷ os) p q h = absurd (cc)
 
 pub same_octets : (os : List ℕ) (p : Page) → Bytes os → page_in os ≡ Ok p → page_octets p ≡ os
 same_octets os p b e =

@@ -1,6 +1,5 @@
-use Rattle.std.proofs.Common.{◌≡◌, ◌*◌, length, eqb, arith}
+use Rattle.std.proofs.Common.{◌≡◌, ◌*◌, length, eqb}
 use Rattle.std.proofs.lemmas.Bool.{and_parts, eqb-true}
-use Rattle.std.proofs.lemmas.Nat.{mul-le}
 use Rattle.page.proofs.Trips.{page_shown}
 use Rattle.page.proofs.read.Checked.show.Goals as goal
 
