@@ -16,16 +16,15 @@ end_with_cell c (Ok r) = refl
 end_with_cell c (Err e) = refl
 
 -- n cells of which i are read: the next one, and those behind it
+cells_next : (n i : ℕ) (os : List ℕ) → i < n → cells_in (n - i) os ≡ then (cell_in os) (λ x. with_cell x.value (cells_in (n - (i + 1)) x.rest))
+cells_next n i os l = let next : n - i ≡ suc (n - (i + 1)) = omega arith in ap (λ m. cells_in m os) next
+
 pub cells_more : (n i : ℕ) (os : List ℕ) (c : Cell) (rest : List ℕ) → i < n → cell_in os ≡ Ok (read c rest)
     → cells_in (n - i) os ≡ with_cell c (cells_in (n - (i + 1)) rest)
-cells_more n i os c rest l h =
-    let next : n - i ≡ suc (n - (i + 1)) = omega arith in
-    ap (λ m. cells_in m os) next ∙ ap (λ d. then d (λ x. with_cell x.value (cells_in (n - (i + 1)) x.rest))) h
+cells_more n i os c rest l h = cells_next n i os l ∙ rw h
 
 pub cells_refused : (n i : ℕ) (os : List ℕ) (e : Refusal) → i < n → cell_in os ≡ Err e → cells_in (n - i) os ≡ Err e
-cells_refused n i os e l h =
-    let next : n - i ≡ suc (n - (i + 1)) = omega arith in
-    ap (λ m. cells_in m os) next ∙ ap (λ d. then d (λ x. with_cell x.value (cells_in (n - (i + 1)) x.rest))) h
+cells_refused n i os e l h = cells_next n i os l ∙ rw h
 
 pub end_more : (n i : ℕ) (os : List ℕ) (c : Cell) (rest : List ℕ) → i < n → cell_in os ≡ Ok (read c rest)
     → end_of (cells_in (n - i) os) ≡ end_of (cells_in (n - (i + 1)) rest)

@@ -105,9 +105,18 @@ module _ (g : Grid) (cursor : ℕ) (s : Sound g) (on : cursor < length g.cells) 
 only_one : (n : ℕ) → within 1 1 n ≡ true → n ≡ 1
 only_one n h = grind (arith, nat_tests)
 
+-- the octets of a header, and others behind them
+abbrev pub header_octets : Header → List ℕ → List ℕ
+header_octets h os = number 1 ++ (number h.rows ++ (number h.columns ++ (number h.cursor ++ os)))
+
+in_a_row : (os : List ℕ) (v r w p : Read ℕ) → v.value ≡ 1 → number v.value ++ v.rest ≡ os → number r.value ++ r.rest ≡ v.rest
+    → number w.value ++ w.rest ≡ r.rest → number p.value ++ p.rest ≡ w.rest
+    → header_octets (record { rows = r.value; columns = w.value; cursor = p.value }) p.rest ≡ os
+in_a_row os v r w p one a b c d = cc
+
 -- octets that are a page are those of the page
 header_back : (os : List ℕ) (h : Read Header) → Bytes os → header_in os ≡ Ok h
-    → (number 1 ++ (number h.value.rows ++ (number h.value.columns ++ (number h.value.cursor ++ h.rest))) ≡ os) × Bytes h.rest
+    → (header_octets h.value h.rest ≡ os) × Bytes h.rest
 header_back os h b e =
     let v = then_inv (first_where (within 1 1) os) _ h e in
     let r = then_inv (first_where (within 2 24) v.0.rest) _ h v.2 in
@@ -118,14 +127,8 @@ header_back os h b e =
     let nr = number_back v.0.rest r.0 nv.1 (where_inv (within 2 24) v.0.rest r.0 r.1).0 in
     let nw = number_back r.0.rest w.0 nr.1 (where_inv (within 1 80) r.0.rest w.0 w.1).0 in
     let np = number_back w.0.rest p.0 nw.1 (where_inv (within 0 (r.0.value * w.0.value - 1)) w.0.rest p.0 p.1).0 in
-    let whole : read (record { rows = r.0.value; columns = w.0.value; cursor = p.0.value }) p.0.rest ≡ h = cc in
-    let first : v.0.value ≡ 1 = only_one v.0.value one.1 in (
-      ap (λ (x : Read Header). number 1 ++ (number x.value.rows ++ (number x.value.columns ++ (number x.value.cursor ++ x.rest)))) (sym whole)
-          ∙ ap (λ x. number 1 ++ (number r.0.value ++ (number w.0.value ++ x))) np.0
-          ∙ ap (λ x. number 1 ++ (number r.0.value ++ x)) nw.0
-          ∙ ap (λ x. number 1 ++ x) nr.0
-          ∙ ap (λ n. number n ++ v.0.rest) (sym first)
-          ∙ nv.0,
+    let whole : read (record { rows = r.0.value; columns = w.0.value; cursor = p.0.value }) p.0.rest ≡ h = cc in (
+      ap (λ (x : Read Header). header_octets x.value x.rest) (sym whole) ∙ in_a_row os v.0 r.0 w.0 p.0 (only_one v.0.value one.1) nv.0 nr.0 nw.0 np.0,
       λ i. subst (λ (x : Read Header). get_or x.rest i 0 < 256) whole (np.1 i),
     )
 
@@ -143,7 +146,7 @@ same_octets os p b e =
     let cells = cells_back (h.rows * h.columns) t.0.rest u.0 k.1 u.1 in
     let all : cells_octets u.0.value ≡ t.0.rest = sym (append-nil (cells_octets u.0.value)) ∙ ap (λ x. cells_octets u.0.value ++ x) (sym v.0) ∙ cells in
     ap page_octets (sym v.1)
-    ∙ ap (λ x. number 1 ++ (number h.rows ++ (number h.columns ++ (number h.cursor ++ x)))) all
+    ∙ ap (header_octets h) all
     ∙ k.0
 
 -- a page that was found good, and then drawn
