@@ -1,7 +1,7 @@
 -- A page's numbers written one after another.
 use Rattle.std.proofs.Common.{◌≡◌, ℕ, ◌+◌, ◌<◌, ◌≤◌, List, [], ◌∷◌, ◌++◌, map, length, get_or, take, ap, sym, ◌∙◌, arith, length-append}
 use Rattle.std.specs.List.{flat_map}
-use Rattle.std.proofs.lemmas.List.{take_more, take_at, flat_map_more, get_or-append-add, get_or-map, length-map}
+use Rattle.std.proofs.lemmas.List.{take_more, take_at, flat_map_more, get_or-append-add, get_or-map, get_or-take, length-map}
 use Rattle.std.proofs.lemmas.List.Folds.{length-flat_map-take}
 use Rattle.area.specs.Over.{over, written_at}
 use Rattle.area.proofs.Areas.{over_written}
@@ -21,7 +21,12 @@ pub record Written (ns before : List ℕ) (i end : ℕ) (area : List ℕ) : Type
   pub next : end ≡ length (first ns i)
   pub octets : area ≡ over (first ns i) before
 
--- the number of a cell is one of the page's
+-- a number before the cells, and that of a cell, are some of the page's
+pub header_at : (p : Page) (header : List ℕ) (i : ℕ) → header ≡ take 4 (page_numbers p) → i < length header
+    → (i < length (page_numbers p)) × (get_or header i 0 ≡ get_or (page_numbers p) i 0)
+header_at p header i e l =
+    let four = ap length e in (omega arith, ap (λ xs. get_or xs i 0) e ∙ get_or-take 4 (page_numbers p) i 0 (omega arith))
+
 pub cell_at : (p : Page) (k : ℕ) → k < length p.cells → (4 + k < length (page_numbers p)) × (get_or (page_numbers p) (4 + k) 0 ≡ cell_number (get_or p.cells k blank))
 cell_at p k l = (
   omega (arith, length-map p.cells cell_number),
