@@ -1,6 +1,9 @@
 -- Decimal numbers of at most nine digits, and sizes.
-use Rattle.std.specs.Prelude.{ℕ, ◌+◌, ◌-◌, ◌*◌, Bool, cond, not, ◌&&◌, List, [], ◌∷◌, length, take, drop, Some, None, Option, ◌==◌, nat_le, nat_lt}
-use Rattle.std.specs.List.{prefix_len}
+use Rattle.std.specs.Prelude.{ℕ, ◌+◌, ◌-◌, ◌*◌, cond, ◌&&◌, List, [], ◌∷◌, length, take, drop, Some, None, Option, option_and_then, position, ◌==◌, nat_le, nat_lt}
+
+infixl 10 ◌>>=◌
+abbrev ◌>>=◌ : {A B : Type 0} → Option A → (A → Option B) → Option B
+o >>= f = option_and_then f o
 
 -- a number with one digit more
 abbrev pub with_digit : ℕ → ℕ → Option ℕ
@@ -16,17 +19,10 @@ digits_from (Some n) (c ∷ cs) = digits_from (with_digit n c) cs
 abbrev pub number_in : List ℕ → Option ℕ
 number_in w = cond (length w == 0) None (digits_from (Some 0) w)
 
-abbrev pub is_not_x : ℕ → Bool
-is_not_x c = not (c == 120)
-
-abbrev pub pair_of : Option ℕ → Option ℕ → Option (ℕ × ℕ)
-pair_of (Some m) (Some n) = Some (m, n)
-pair_of (Some m) None = None
-pair_of None (Some n) = None
-pair_of None None = None
-
 -- rows and columns, parted by the first x
 abbrev pub size_in : List ℕ → Option (ℕ × ℕ)
-size_in w =
-    let x : ℕ = prefix_len is_not_x w in
-    cond (nat_lt x (length w)) (pair_of (number_in (take x w)) (number_in (drop (x + 1) w))) None
+size_in w = do
+  x ← position (λ c. c == 120) w
+  rows ← number_in (take x w)
+  columns ← number_in (drop (x + 1) w)
+  Some (rows, columns)

@@ -1,50 +1,40 @@
 // What ends a run: a script that does not fit, or input or output that fails.
-use crate::word::Word;
-use std::{fmt, io};
+ghost use Rattle.script.specs.Errors.{IsOutOfMemory};
 
-#[derive(Clone, Copy)]
+use crate::word::Word;
+use std::alloc::{AllocError, AllocFailed};
+use std::error::Error;
+use std::{fmt, io};
+use thiserror::Error;
+
+#[derive(Clone, Copy, Debug, Error)]
 pub enum Problem {
+    #[error("no line that this program knows begins so")]
     UnknownLine,
+    #[error("there is no line yet: write 'monitor sync' or 'monitor async' first")]
     NoLineYet,
+    #[error("there is no screen yet: write a 'screen' line first")]
     NoScreenYet,
+    #[error("after 'monitor' stands 'sync' or 'async'")]
     NoLineKind,
+    #[error("no screen: 'words', 'bits', 'turn' or 'window' is wanted")]
     NoScreenKind,
+    #[error("no octet: two hexadecimal digits are wanted")]
     NoOctet,
+    #[error("no number: at most nine decimal digits are wanted")]
     NoNumber,
+    #[error("no protection mark: 0 or 1 is wanted")]
     NoMark,
+    #[error("no size: rows and columns are wanted, as 12x80")]
     NoSize,
+    #[error("too many layers: at most four stand over a store")]
     TooManyLayers,
+    #[error("left over: the line should end before it")]
     LeftOver,
 }
 
-impl fmt::Display for Problem {
-    fn fmt<W: fmt::Write>(&self, f: &mut fmt::Formatter<W>) -> fmt::Result {
-        match self {
-            Problem::UnknownLine => f.write_str("no line that this program knows begins so"),
-            Problem::NoLineYet => f.write_str(
-                "there is no line yet: write 'monitor sync' or 'monitor async' first",
-            ),
-            Problem::NoLineKind => f.write_str("after 'monitor' stands 'sync' or 'async'"),
-            Problem::NoScreenYet => f.write_str(
-                "there is no screen yet: write a 'screen' line first",
-            ),
-            Problem::NoScreenKind => f.write_str(
-                "no screen: 'words', 'bits', 'turn' or 'window' is wanted",
-            ),
-            Problem::NoNumber => f.write_str("no number: at most nine decimal digits are wanted"),
-            Problem::NoMark => f.write_str("no protection mark: 0 or 1 is wanted"),
-            Problem::NoSize => f.write_str("no size: rows and columns are wanted, as 12x80"),
-            Problem::TooManyLayers => f.write_str(
-                "too many layers: at most four stand over a store",
-            ),
-            Problem::NoOctet => f.write_str("no octet: two hexadecimal digits are wanted"),
-            Problem::LeftOver => f.write_str("left over: the line should end before it"),
-        }
-    }
-}
-
 // What is wrong in a line of a script, at a word or, where there is none, at the line's end.
-#[derive(Clone, Copy)]
+#[derive(Clone, Copy, Debug)]
 pub struct ScriptError {
     pub line: u64,
     pub word: Word,
@@ -64,23 +54,28 @@ impl fmt::Display for ScriptError {
     }
 }
 
-#[derive(Drop)]
+impl Error for ScriptError {}
+
+#[derive(Debug, Drop, Error)]
 pub enum RunError {
-    Script(ScriptError),
-    Io(io::Error),
+    #[error(transparent)]
+    Script(#[from] ScriptError),
+    #[error(transparent)]
+    Io(#[from] io::Error),
 }
 
-impl From<io::Error> for RunError {
-    fn from(e: io::Error) -> RunError {
-        RunError::Io(e)
+impl From<AllocError> for RunError {
+    ghost from_gives = { λ _ r. IsOutOfMemory r };
+
+    fn from(e: AllocError) -> RunError {
+        RunError::Io(io::Error::from(e))
     }
 }
 
-impl fmt::Display for RunError {
-    fn fmt<W: fmt::Write>(&self, f: &mut fmt::Formatter<W>) -> fmt::Result {
-        match self {
-            RunError::Script(e) => write!(f, "{e}"),
-            RunError::Io(e) => write!(f, "{e}"),
-        }
+impl<T: Drop> From<AllocFailed<T>> for RunError {
+    ghost from_gives = { λ _ r. IsOutOfMemory r };
+
+    fn from(e: AllocFailed<T>) -> RunError {
+        RunError::Io(io::Error::from(e))
     }
 }

@@ -20,10 +20,7 @@ pub fn octet(word: &[u8]) -> Option<u8>
     let [high, low] = word else {
         return None;
     };
-    match (digit(*high), digit(*low)) {
-        (Some(h), Some(l)) => Some(h * 16 + l),
-        _ => None,
-    }
+    Some(digit(*high)? * 16 + digit(*low)?)
 }
 
 fn digit_character(digit: u8) -> u8

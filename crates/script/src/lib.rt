@@ -3,6 +3,7 @@
 
 pub mod error;
 pub mod hex;
+mod input;
 pub mod number;
 pub mod word;
 pub mod words;

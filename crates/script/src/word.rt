@@ -1,5 +1,5 @@
 // One word of a script.
-ghost use Rattle.std.specs.Prelude.{◌≡◌, ◌<◌, ◌≤◌, [], ◌∷◌, ◌++◌, length, take, if◌then◌else◌, nat_lt};
+ghost use Rattle.std.specs.Prelude.{◌≡◌, ◌≤◌, [], ◌∷◌, ◌++◌, length, take, if◌then◌else◌, nat_lt};
 
 use std::fmt;
 
@@ -7,7 +7,7 @@ use std::fmt;
 const LONGEST: usize = 64;
 
 // The characters in the first len places.
-#[derive(Clone, Copy)]
+#[derive(Clone, Copy, Debug)]
 pub struct Word {
     characters: [u8; LONGEST],
     len: usize,
@@ -30,16 +30,9 @@ impl Word {
         ensures { take self.new.len self.new.characters ≡ (if nat_lt self.old.len 64 then take self.old.len self.old.characters ++ (character ∷ []) else take self.old.len self.old.characters) }
     {
         if self.len < LONGEST {
-            self.append(character);
+            self.characters[self.len] = character;
+            self.len += 1;
         }
-    }
-
-    fn append(&mut self, character: u8)
-        requires { self.old.len < 64 }
-        ensures { take self.new.len self.new.characters ≡ take self.old.len self.old.characters ++ (character ∷ []) }
-    {
-        self.characters[self.len] = character;
-        self.len += 1;
     }
 
     pub fn bytes(&self) -> &[u8]

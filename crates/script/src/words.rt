@@ -1,12 +1,20 @@
 // The words of a script, from any reader in one pass, with a fixed amount of memory.
-ghost use Rattle.std.specs.Prelude.{◌≡◌, ◌≤◌, length};
+ghost use Rattle.std.specs.Prelude.{◌≡◌, ◌≢◌, ◌+◌, ◌<◌, ◌≤◌, ◌↔◌, false, IsTrue, Some, IfOk, IfSome, OnOk, OnSome};
+ghost use Rattle.std.specs.Iterator.{at_most};
+ghost use Rattle.script.specs.Hex.{octet_in};
+ghost use Rattle.script.specs.Number.{number_in, size_in};
+ghost use Rattle.script.specs.Words.{text_of, left, octets_left, YieldsOctet};
+ghost use Rattle.script.specs.declared.words.Token.TheVariants.{End};
+ghost use Rattle.std.specs.declared.ops.ControlFlow.TheVariants.{Break};
 
 use crate::error::{Problem, RunError, ScriptError};
 use crate::hex::octet;
+use crate::input::Input;
 use crate::number::{number, size};
 use crate::word::Word;
 use std::io;
 use std::io::Read;
+use std::ops::ControlFlow;
 
 // What comes next. Blank lines have an end too; the last line may want its LF.
 #[derive(Clone, Copy, PartialEq, Eq, Debug)]
@@ -16,20 +24,44 @@ pub enum Token {
     End,
 }
 
-const CHUNK: usize = 65536;
-
-// The octets buffer[at..end] are read and not yet taken.
 #[derive(Drop)]
 pub struct Words<R> {
-    reader: R,
-    buffer: [u8; CHUNK],
-    at: usize,
-    end: usize,
+    input: Input<R>,
     word: Word,
+    // the last token's line, and the next octet's
     line: u64,
-    line_ended: bool,
-    ghost order: { at ≤ end },
-    ghost within: { end ≤ 65536 },
+    next_line: u64,
+    // whether the last word comes again
+    again: bool,
+}
+
+fn is_blank(octet: u8) -> bool {
+    matches!(octet, b' ' | b'\t' | b'\r')
+}
+
+fn ends_word(octet: u8) -> bool {
+    is_blank(octet) || matches!(octet, b'\n' | b'#')
+}
+
+// Skips blanks and a comment, up to a word, an LF or the end.
+fn skip<R: Read>(input: &mut Input<R>) -> io::Result<()>
+    ensures { input.new ≤ input.old }
+{
+    input.skip_while(|octet| is_blank(octet))?;
+    if input.next_if(|octet| octet == b'#')?.is_some() {
+        input.skip_while(|octet| octet != b'\n')?;
+    }
+    Ok(())
+}
+
+// Takes the rest of a word.
+fn take_word<R: Read>(input: &mut Input<R>, word: &mut Word) -> io::Result<()>
+    ensures { input.new ≤ input.old }
+{
+    while let Some(octet) = input.next_if(|octet| !ends_word(octet))? {
+        word.push(octet);
+    }
+    Ok(())
 }
 
 impl<R: Read> Words<R> {
@@ -37,13 +69,11 @@ impl<R: Read> Words<R> {
         ensures { result.line ≡ 1 }
     {
         Words {
-            reader,
-            buffer: [0; CHUNK],
-            at: 0,
-            end: 0,
+            input: Input::new(reader),
             word: Word::new(),
             line: 1,
-            line_ended: false,
+            next_line: 1,
+            again: false,
         }
     }
 
@@ -72,117 +102,66 @@ impl<R: Read> Words<R> {
         })
     }
 
-    // The next octet, which stays; None at the end of the input.
-    fn peek(&mut self) -> io::Result<Option<u8>> {
-        if self.at == self.end {
-            self.at = 0;
-            self.end = 0;
-            let n = self.reader.read(&mut self.buffer)?;
-            self.end = n;
-            if n == 0 {
-                return Ok(None);
-            }
-        }
-        Ok(Some(self.buffer[self.at]))
-    }
-
-    fn advance(&mut self) {
-        if self.at < self.end {
-            self.at += 1;
-        }
-    }
-
-    // Skips blanks and a comment, up to a word, an LF or the end.
-    fn skip(&mut self) -> io::Result<Option<u8>> {
-        let mut comment = false;
-        for _ in 0..u64::MAX {
-            match self.peek()? {
-                Some(b'\n') => return Ok(Some(b'\n')),
-                Some(b'#') => comment = true,
-                Some(b' ' | b'\t' | b'\r') => {}
-                Some(byte) if !comment => return Ok(Some(byte)),
-                Some(_) => {}
-                None => break,
-            }
-            self.advance();
-        }
-        Ok(None)
-    }
-
-    // Takes the word that begins here.
-    fn take_word(&mut self) -> io::Result<()> {
-        self.word = Word::new();
-        for _ in 0..u64::MAX {
-            match self.peek()? {
-                None | Some(b' ' | b'\t' | b'\r' | b'\n' | b'#') => break,
-                Some(byte) => self.word.push(byte),
-            }
-            self.advance();
-        }
-        Ok(())
-    }
-
     // The next token; `word` then has the word, and `line` its line.
-    pub fn next(&mut self) -> io::Result<Token> {
-        if self.line_ended {
-            self.line = self.line.saturating_add(1);
-            self.line_ended = false;
+    pub fn next(&mut self) -> io::Result<Token>
+        ensures fewer { IfOk result (λ token. token ≢ End → left self.new < left self.old) }
+        ensures kept { left self.new ≤ left self.old }
+        ensures taken { OnOk result (self.new.again ≡ false) }
+    {
+        if self.again {
+            self.again = false;
+            return Ok(Token::Word);
         }
-        match self.skip()? {
-            None => {
-                self.word = Word::new();
-                Ok(Token::End)
-            }
+        self.line = self.next_line;
+        self.word = Word::new();
+        skip(&mut self.input)?;
+        match self.input.next_if(|_| true)? {
+            None => Ok(Token::End),
             Some(b'\n') => {
-                self.word = Word::new();
-                self.advance();
-                self.line_ended = true;
+                self.next_line = self.line.saturating_add(1);
                 Ok(Token::LineEnd)
             }
-            Some(_) => {
-                self.take_word()?;
+            Some(first) => {
+                self.word.push(first);
+                take_word(&mut self.input, &mut self.word)?;
                 Ok(Token::Word)
             }
         }
     }
 
     // The next octet of the line, until there is none.
-    pub fn next_octet(&mut self) -> Result<Option<u8>, RunError> {
+    pub fn next_octet(&mut self) -> Result<Option<u8>, RunError>
+        ensures named { IfOk result (λ next. IfSome next (λ octet. octet_in (text_of self.new.word) ≡ Some octet)) }
+        ensures fewer { IfOk result (λ next. OnSome next (left self.new < left self.old)) }
+    {
         match self.next()? {
-            Token::Word => match octet(self.word.bytes()) {
-                Some(octet) => Ok(Some(octet)),
-                None => Err(self.error(Problem::NoOctet)),
-            },
+            Token::Word => {
+                let octet = octet(self.word.bytes()).ok_or_else(|| self.error(Problem::NoOctet))?;
+                Ok(Some(octet))
+            }
             Token::LineEnd | Token::End => Ok(None),
         }
     }
 
     // The next word, which is to be a number.
-    pub fn next_number(&mut self) -> Result<usize, RunError> {
+    pub fn next_number(&mut self) -> Result<usize, RunError>
+        ensures { IfOk result (λ number. number_in (text_of self.new.word) ≡ Some number) }
+    {
         self.next()?;
-        match number(self.word.bytes()) {
-            Some(number) => Ok(number),
-            None => Err(self.error(Problem::NoNumber)),
-        }
+        number(self.word.bytes()).ok_or_else(|| self.error(Problem::NoNumber))
     }
 
     // The next word, which is to be a size: rows and columns.
-    pub fn next_size(&mut self) -> Result<(usize, usize), RunError> {
+    pub fn next_size(&mut self) -> Result<(usize, usize), RunError>
+        ensures { IfOk result (λ size. size_in (text_of self.new.word) ≡ Some size) }
+    {
         self.next()?;
-        match size(self.word.bytes()) {
-            Some(size) => Ok(size),
-            None => Err(self.error(Problem::NoSize)),
-        }
+        size(self.word.bytes()).ok_or_else(|| self.error(Problem::NoSize))
     }
 
     // Skips the rest of the line.
     pub fn skip_line(&mut self) -> Result<(), RunError> {
-        for _ in 0..u64::MAX {
-            match self.next()? {
-                Token::Word => {}
-                Token::LineEnd | Token::End => break,
-            }
-        }
+        while self.next()? == Token::Word {}
         Ok(())
     }
 
@@ -191,6 +170,63 @@ impl<R: Read> Words<R> {
         match self.next()? {
             Token::Word => Err(self.error(Problem::LeftOver)),
             Token::LineEnd | Token::End => Ok(()),
+        }
+    }
+
+    // The octets of the rest of the line.
+    pub fn octets(&mut self) -> Octets<'_, R>
+        ensures { octets_left result ≡ left self.old + 1 }
+    {
+        Octets { words: Some(self) }
+    }
+
+    // Runs `line` at the first word of each line, to the end or to a line at which it breaks, whose first word then comes again.
+    pub fn lines<F: FnMut(&mut Words<R>) -> Result<ControlFlow<()>, RunError>>(
+        &mut self,
+        mut line: F,
+    ) -> Result<ControlFlow<()>, RunError>
+        requires { F.IsAlwaysCallable line }
+        ensures { IfOk result (λ flow. IsTrue self.new.again ↔ flow ≡ Break tt) }
+    {
+        // `line` may do anything with the words, so only a count ends this loop.
+        for _ in 0..u64::MAX {
+            match self.next()? {
+                Token::Word => {
+                    if line(self)?.is_break() {
+                        self.again = true;
+                        return Ok(ControlFlow::Break(()));
+                    }
+                }
+                Token::LineEnd => {}
+                Token::End => return Ok(ControlFlow::Continue(())),
+            }
+        }
+        Err(RunError::Io(io::Error::from(io::ErrorKind::TimedOut)))
+    }
+}
+
+// The octets of the rest of a line, after an error none.
+#[derive(Drop)]
+pub struct Octets<'a, R> {
+    words: Option<&'a mut Words<R>>,
+}
+
+impl<'a, R: Read> Iterator for Octets<'a, R> {
+    type Item = Result<u8, RunError>;
+
+    ghost next_gives = { λ _ r t. YieldsOctet r t };
+
+    ghost remaining = { λ s. at_most (octets_left s) };
+
+    fn next(&mut self) -> Option<Result<u8, RunError>> {
+        let words = self.words.take()?;
+        match words.next_octet() {
+            Ok(None) => None,
+            Ok(Some(octet)) => {
+                self.words = Some(words);
+                Some(Ok(octet))
+            }
+            Err(e) => Some(Err(e)),
         }
     }
 }
