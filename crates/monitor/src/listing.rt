@@ -1,28 +1,60 @@
 // One line for each message or fault of a capture, and a summary.
 use crate::octets::{codes, layer};
+use crate::report::Report;
 use capture::content::Reply;
+use capture::watch::Capture;
 use codes::BEL;
+use line::Line;
 use message::Form;
 use numbered::Numbered;
 use receiver::fault::{Cause, Fault, ReceiverFault};
+use receiver::receive::Event;
 use std::io;
 use std::io::Write;
 
 // How many messages and faults were listed.
-#[derive(Clone, Copy)]
+#[derive(Clone, Copy, Default)]
 pub struct Listing {
     messages: u64,
     faults: u64,
 }
 
-impl Listing {
-    pub fn new() -> Listing {
-        Listing {
-            messages: 0,
-            faults: 0,
+impl Report for Listing {
+    fn begin<W: Write>(_out: &mut W) -> io::Result<Listing> {
+        Ok(Listing::default())
+    }
+
+    fn hear<L: Line, W: Write>(
+        &mut self,
+        out: &mut W,
+        capture: &mut Capture<L>,
+        octet: u8,
+    ) -> io::Result<()> {
+        match capture.hear(octet) {
+            Ok(Event::Message(_)) => self.message(out, capture.begun(), capture.message()),
+            Ok(Event::Nothing | Event::Begun) => Ok(()),
+            Err(fault) => self.fault(out, capture.begun(), &fault),
         }
     }
 
+    // The summary of a capture, in which a message may be unfinished.
+    fn end<L: Line, W: Write>(&self, out: &mut W, capture: &Capture<L>) -> io::Result<()> {
+        let octets = capture.octets();
+        let messages = self.messages;
+        let faults = self.faults;
+        write!(
+            out,
+            "summary octets {octets} messages {messages} faults {faults}"
+        )?;
+        if let Some(offset) = capture.unfinished() {
+            let kept = capture.kept();
+            write!(out, " unfinished offset {offset} kept {kept}")?;
+        }
+        out.write_all(b"\n")
+    }
+}
+
+impl Listing {
     // The number of the next message or fault, and the offset of its SOH.
     fn head<W: Write>(&self, out: &mut W, begun: Option<u64>) -> io::Result<()> {
         let number = self.messages.saturating_add(self.faults).saturating_add(1);
@@ -32,7 +64,7 @@ impl Listing {
         }
     }
 
-    pub fn message<W: Write>(
+    fn message<W: Write>(
         &mut self,
         out: &mut W,
         begun: Option<u64>,
@@ -40,18 +72,21 @@ impl Listing {
     ) -> io::Result<()> {
         self.head(out, begun)?;
         self.messages = self.messages.saturating_add(1);
-        if characters.len() < 4 {
-            out.write_all(b" codes")?;
-            codes(out, characters)?;
-        } else {
-            out.write_all(b" station")?;
-            codes(out, &characters[0..3])?;
-            content(out, &characters[3..])?;
+        match characters.split_at_checked(3) {
+            Some((station, tail)) if !tail.is_empty() => {
+                out.write_all(b" station")?;
+                codes(out, station)?;
+                content(out, tail)?;
+            }
+            _ => {
+                out.write_all(b" codes")?;
+                codes(out, characters)?;
+            }
         }
         out.write_all(b"\n")
     }
 
-    pub fn fault<W: Write>(
+    fn fault<W: Write>(
         &mut self,
         out: &mut W,
         begun: Option<u64>,
@@ -69,51 +104,40 @@ impl Listing {
         };
         writeln!(out, " fault {number} {layer} kept {kept}: {why}")
     }
-
-    // The end of a capture, in which a message may be unfinished.
-    pub fn summary<W: Write>(
-        &self,
-        out: &mut W,
-        octets: u64,
-        unfinished: Option<u64>,
-        kept: usize,
-    ) -> io::Result<()> {
-        let messages = self.messages;
-        let faults = self.faults;
-        write!(
-            out,
-            "summary octets {octets} messages {messages} faults {faults}"
-        )?;
-        if let Some(offset) = unfinished {
-            write!(out, " unfinished offset {offset} kept {kept}")?;
-        }
-        out.write_all(b"\n")
-    }
 }
 
 // What stands after the addresses.
 fn content<W: Write>(out: &mut W, tail: &[u8]) -> io::Result<()> {
-    match Form::read(tail) {
-        Some(Form::Poll) => return out.write_all(b" poll"),
-        Some(Form::PollAcknowledge) => return out.write_all(b" poll with acknowledgement"),
-        Some(Form::Repeat) => return out.write_all(b" repeat request"),
-        Some(Form::Text(characters)) => return text(out, characters),
-        None => {}
+    if let Some(form) = Form::read(tail) {
+        return from_host(out, form);
     }
-    match Reply::read(tail) {
-        Some(Reply::Enquiry) => out.write_all(b" DLE ENQ"),
-        Some(Reply::Call(code)) => call(out, code),
-        Some(Reply::AcknowledgedCall(code)) => {
+    if let Some(reply) = Reply::read(tail) {
+        return from_station(out, reply);
+    }
+    out.write_all(b" codes")?;
+    codes(out, tail)
+}
+
+fn from_host<W: Write>(out: &mut W, form: Form<'_>) -> io::Result<()> {
+    match form {
+        Form::Poll => out.write_all(b" poll"),
+        Form::PollAcknowledge => out.write_all(b" poll with acknowledgement"),
+        Form::Repeat => out.write_all(b" repeat request"),
+        Form::Text(characters) => text(out, characters),
+    }
+}
+
+fn from_station<W: Write>(out: &mut W, reply: Reply<'_>) -> io::Result<()> {
+    match reply {
+        Reply::Enquiry => out.write_all(b" DLE ENQ"),
+        Reply::Call(code) => call(out, code),
+        Reply::AcknowledgedCall(code) => {
             out.write_all(b" acknowledgement and")?;
             call(out, code)
         }
-        Some(Reply::AcknowledgedText(characters)) => {
+        Reply::AcknowledgedText(characters) => {
             out.write_all(b" acknowledgement and")?;
             text(out, characters)
-        }
-        None => {
-            out.write_all(b" codes")?;
-            codes(out, tail)
         }
     }
 }

@@ -3,12 +3,14 @@
 
 mod listing;
 mod octets;
+mod report;
 mod run;
-mod session;
 
 use listing::Listing;
+use octets::Octets;
+use report::Report;
 use run::run;
-use session::Report;
+use script::error::RunError;
 use std::env;
 use std::io::{BufWriter, Write};
 use std::process::ExitCode;
@@ -21,59 +23,69 @@ for each message or fault, and a summary.
   send HH ..           the octets that the line sends for these codes
 Blank lines and everything from # on are skipped.";
 
+// What the arguments ask for.
 #[derive(Clone, Copy)]
 enum Wanted {
-    Report(Report),
+    Octets,
+    Listing,
     Help,
 }
 
-// What the arguments ask for; None where they do not fit.
+// None where the arguments do not fit.
 fn asked(rt: &HostRuntime) -> Option<Wanted> {
     let args = env::args(rt).ok()?;
-    let mut wanted = Wanted::Report(Report::Octets);
+    let mut wanted = Wanted::Octets;
     for arg in args.skip(1) {
-        match arg.as_str() {
-            "--messages" => wanted = Wanted::Report(Report::Listing(Listing::new())),
-            "--help" => wanted = Wanted::Help,
+        wanted = match arg.as_str() {
+            "--messages" => Wanted::Listing,
+            "--help" => Wanted::Help,
             _ => return None,
-        }
+        };
     }
     Some(wanted)
 }
 
-// Prints what the arguments ask for; an Err where it could not.
-fn answer(rt: &HostRuntime) -> Result<(), ()> {
-    let report = match asked(rt) {
-        Some(Wanted::Report(report)) => report,
-        Some(Wanted::Help) => return said(rt.println(USAGE).is_ok()),
-        None => {
-            let _ = rt.eprintln(USAGE);
-            return Err(());
-        }
-    };
-    let mut out = match BufWriter::new(rt.alloc(), rt.stdout()) {
-        Ok(out) => out,
-        Err(e) => {
-            let _ = eprintln!(rt; "monitor: {e}");
-            return Err(());
-        }
-    };
-    let result = run(rt.stdin(), &mut out, report);
-    let flushed = out.flush();
-    if let Err(e) = result {
-        let _ = eprintln!(rt; "monitor: {e}");
-        return Err(());
+// Why the program fails.
+#[derive(Drop)]
+enum Failure {
+    Usage,
+    Script(RunError),
+    // standard output takes no more
+    Output,
+}
+
+impl From<RunError> for Failure {
+    fn from(e: RunError) -> Failure {
+        Failure::Script(e)
     }
-    said(flushed.is_ok())
+}
+
+// Runs the script on standard input; what it brought before a failure is written too.
+fn script<P: Report + Drop>(rt: &HostRuntime) -> Result<(), Failure> {
+    let mut out = BufWriter::new(rt.alloc(), rt.stdout()).map_err(RunError::from)?;
+    let result = run::<P, _, _>(rt.stdin(), &mut out);
+    let flushed = out.flush();
+    result?;
+    flushed.map_err(|_| Failure::Output)
+}
+
+// Prints what the arguments ask for.
+fn answer(rt: &HostRuntime) -> Result<(), Failure> {
+    match asked(rt).ok_or(Failure::Usage)? {
+        Wanted::Octets => script::<Octets>(rt),
+        Wanted::Listing => script::<Listing>(rt),
+        Wanted::Help => rt.println(USAGE).map_err(|_| Failure::Output),
+    }
 }
 
 fn main(rt: HostRuntime) -> ExitCode {
-    match answer(&rt) {
-        Ok(()) => ExitCode::SUCCESS,
-        Err(()) => ExitCode::FAILURE,
-    }
-}
-
-fn said(written: bool) -> Result<(), ()> {
-    if written { Ok(()) } else { Err(()) }
+    let Err(failure) = answer(&rt) else {
+        return ExitCode::SUCCESS;
+    };
+    let _ = match failure {
+        Failure::Usage => rt.eprintln(USAGE),
+        Failure::Script(e) => eprintln!(rt; "monitor: {e}"),
+        Failure::Output => Ok(()),
+    };
+    ExitCode::FAILURE
 }

@@ -1,6 +1,9 @@
 // One line for each octet.
+use crate::report::Report;
+use capture::watch::Capture;
+use line::Line;
 use numbered::Numbered;
-use receiver::fault::{Cause, Fault};
+use receiver::fault::Cause;
 use receiver::receive::Event;
 use script::hex;
 use std::io;
@@ -22,28 +25,42 @@ pub fn layer(cause: &Cause) -> &'static str {
     }
 }
 
-// What an octet brought; `message` is the message that it finished.
-pub fn heard<W: Write>(
-    out: &mut W,
-    octet: u8,
-    answer: &Result<Event, Fault>,
-    message: &[u8],
-) -> io::Result<()> {
-    out.write_all(b"octet")?;
-    codes(out, &[octet])?;
-    match answer {
-        Ok(Event::Nothing | Event::Begun) => out.write_all(b" nothing\n"),
-        Ok(Event::Message(_)) => {
-            out.write_all(b" message")?;
-            codes(out, message)?;
-            out.write_all(b"\n")
+// Each octet, with what it brought.
+#[derive(Clone, Copy)]
+pub struct Octets;
+
+impl Report for Octets {
+    fn begin<W: Write>(out: &mut W) -> io::Result<Octets> {
+        out.write_all(b"monitor ok\n")?;
+        Ok(Octets)
+    }
+
+    fn hear<L: Line, W: Write>(
+        &mut self,
+        out: &mut W,
+        capture: &mut Capture<L>,
+        octet: u8,
+    ) -> io::Result<()> {
+        out.write_all(b"octet")?;
+        codes(out, &[octet])?;
+        match capture.hear(octet) {
+            Ok(Event::Nothing | Event::Begun) => out.write_all(b" nothing\n"),
+            Ok(Event::Message(_)) => {
+                out.write_all(b" message")?;
+                codes(out, capture.message())?;
+                out.write_all(b"\n")
+            }
+            Err(fault) => {
+                let number = fault.cause.number();
+                let layer = layer(&fault.cause);
+                let kept = fault.kept;
+                writeln!(out, " refused {number} {layer} {kept}")
+            }
         }
-        Err(fault) => {
-            let number = fault.cause.number();
-            let layer = layer(&fault.cause);
-            let kept = fault.kept;
-            writeln!(out, " refused {number} {layer} {kept}")
-        }
+    }
+
+    fn end<L: Line, W: Write>(&self, _out: &mut W, _capture: &Capture<L>) -> io::Result<()> {
+        Ok(())
     }
 }
 

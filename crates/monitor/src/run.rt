@@ -1,90 +1,85 @@
-// A script, line by line.
-use crate::session::{Choice, Report, Session};
+// A script: captures one after the other.
+use crate::octets::sent;
+use crate::report::Report;
+use capture::watch::Capture;
+use line::Line;
+use line::asynchronous::AsyncLine;
+use line::synchronous::SyncLine;
 use script::error::{Problem, RunError};
-use script::words::{Token, Words};
+use script::words::Words;
 use std::io::{Read, Write};
+use std::ops::ControlFlow;
 
-// Reads the script to its end.
-pub fn run<R: Read + Drop, W: Write>(
+// Reads the script to its end, with a report of each capture.
+pub fn run<P: Report + Drop, R: Read + Drop, W: Write>(
     reader: R,
     out: &mut W,
-    mut report: Report,
 ) -> Result<(), RunError> {
     let mut words = Words::new(reader);
-    let mut session = Session::new();
-    for _ in 0..u64::MAX {
-        match words.next()? {
-            Token::Word => line(&mut words, &mut session, &mut report, out)?,
-            Token::LineEnd => {}
-            Token::End => break,
-        }
-    }
-    session.close(out, &report)?;
+    words.lines(|words| first::<P, R, W>(words, out))?;
     Ok(())
 }
 
-// One line, from its first word on.
-fn line<R: Read, W: Write>(
+// A line that stands in no capture.
+fn first<P: Report + Drop, R: Read, W: Write>(
     words: &mut Words<R>,
-    session: &mut Session,
-    report: &mut Report,
     out: &mut W,
-) -> Result<(), RunError> {
+) -> Result<ControlFlow<()>, RunError> {
     match words.word().bytes() {
-        b"monitor" => {
-            session.close(out, report)?;
-            session.open(line_choice(words)?);
-            words.end_line()?;
-            report.begin(out)?;
-            Ok(())
-        }
-        b"octets" => octets(words, session, report, out),
-        b"send" => send(words, session, out),
-        _ => Err(words.error(Problem::UnknownLine)),
+        b"monitor" => monitor::<P, R, W>(words, out)?,
+        b"octets" | b"send" => return Err(words.error(Problem::NoLineYet)),
+        _ => return Err(words.error(Problem::UnknownLine)),
     }
+    Ok(ControlFlow::Continue(()))
 }
 
-// The line that `monitor` names.
-fn line_choice<R: Read>(words: &mut Words<R>) -> Result<Choice, RunError> {
+// A capture on a line of the kind that `monitor` names.
+fn monitor<P: Report + Drop, R: Read, W: Write>(
+    words: &mut Words<R>,
+    out: &mut W,
+) -> Result<(), RunError> {
     words.next()?;
     match words.word().bytes() {
-        b"sync" => Ok(Choice::Synchronous),
-        b"async" => Ok(Choice::Asynchronous),
+        b"sync" => capture::<SyncLine, P, R, W>(words, out),
+        b"async" => capture::<AsyncLine, P, R, W>(words, out),
         _ => Err(words.error(Problem::NoLineKind)),
     }
 }
 
-fn octets<R: Read, W: Write>(
+// A capture on a new line, up to the next `monitor`.
+fn capture<L: Line + Drop, P: Report + Drop, R: Read, W: Write>(
     words: &mut Words<R>,
-    session: &mut Session,
-    report: &mut Report,
     out: &mut W,
 ) -> Result<(), RunError> {
-    if session.is_closed() {
-        return Err(words.error(Problem::NoLineYet));
-    }
-    for _ in 0..u64::MAX {
-        let Some(octet) = words.next_octet()? else {
-            break;
-        };
-        session.hear(out, report, octet)?;
-    }
+    words.end_line()?;
+    let mut capture = Capture::<L>::new();
+    let mut report = P::begin(out)?;
+    words.lines(|words| line(words, out, &mut capture, &mut report))?;
+    report.end(out, &capture)?;
     Ok(())
 }
 
-fn send<R: Read, W: Write>(
+// A line of a capture, which breaks at the next one's.
+fn line<L: Line, P: Report, R: Read, W: Write>(
     words: &mut Words<R>,
-    session: &Session,
     out: &mut W,
-) -> Result<(), RunError> {
-    if session.is_closed() {
-        return Err(words.error(Problem::NoLineYet));
+    capture: &mut Capture<L>,
+    report: &mut P,
+) -> Result<ControlFlow<()>, RunError> {
+    match words.word().bytes() {
+        b"monitor" => return Ok(ControlFlow::Break(())),
+        b"octets" => {
+            for octet in words.octets() {
+                report.hear(out, capture, octet?)?;
+            }
+        }
+        b"send" => {
+            for code in words.octets() {
+                let code = code?;
+                sent(out, code, capture.send(code))?;
+            }
+        }
+        _ => return Err(words.error(Problem::UnknownLine)),
     }
-    for _ in 0..u64::MAX {
-        let Some(code) = words.next_octet()? else {
-            break;
-        };
-        session.send(out, code)?;
-    }
-    Ok(())
+    Ok(ControlFlow::Continue(()))
 }
