@@ -2,14 +2,13 @@
 ghost use Rattle.std.specs.Prelude.{◌≡◌};
 ghost use Rattle.text.specs.Shown.{shown};
 ghost use Rattle.edit.specs.View.{view, at};
+ghost use Rattle.edit.specs.Shown as seen;
 ghost use Rattle.host.specs.Drawing.{effect, protects, drawn, escape_drawn, control_drawn};
 
 use crate::effect::Effect;
 use codes::{BEL, CR, DC1, DC4, FS, GS, HT, RS, SI, SO};
-use edit::apply::{apply, move_to};
-use edit::cell::on_screen;
 use edit::edits::{Edit, Motion};
-use edit::write::write_run;
+use edit::view::View;
 use screen::interface::Screen;
 use text::step::Step;
 use transmission::kind::Kind;
@@ -40,29 +39,27 @@ pub(crate) fn protects(protected: bool, step: Step) -> bool
 }
 
 // ESC and a code.
-fn draw_escape<S: Screen>(screen: &mut S, cursor: usize, protected: bool, letter: char) -> usize
-    ensures rest { S.rest screen.new ≡ S.rest screen.old }
-    ensures view { view (S.grid screen.new) result ≡ escape_drawn protected letter (at (S.grid screen.old) cursor) }
+fn draw_escape<S: Screen>(view: &mut View<S>, protected: bool, letter: char)
+    ensures beside { seen.beside view.new ≡ seen.beside view.old }
+    ensures view { seen.shown view.new ≡ escape_drawn protected letter (seen.shown view.old) }
 {
     if letter == '\t' {
-        return write_run(screen, cursor, &[HT], protected);
-    }
-    match Edit::of_letter(letter) {
-        Some(edit) => apply(screen, cursor, edit),
-        None => on_screen(screen, cursor),
+        view.write_run(&[HT], protected);
+    } else if let Some(edit) = Edit::of_letter(letter) {
+        view.apply(edit);
     }
 }
 
 // Any other code.
-fn draw_control<S: Screen>(screen: &mut S, cursor: usize, protected: bool, code: u8) -> usize
-    ensures rest { S.rest screen.new ≡ S.rest screen.old }
-    ensures view { view (S.grid screen.new) result ≡ control_drawn protected code (at (S.grid screen.old) cursor) }
+fn draw_control<S: Screen>(view: &mut View<S>, protected: bool, code: u8)
+    ensures beside { seen.beside view.new ≡ seen.beside view.old }
+    ensures view { seen.shown view.new ≡ control_drawn protected code (seen.shown view.old) }
 {
     match code {
-        FS | GS | RS => write_run(screen, cursor, &[code], protected),
-        CR => apply(screen, cursor, Edit::Move(Motion::Return)),
-        HT => apply(screen, cursor, Edit::Move(Motion::Tab)),
-        _ => on_screen(screen, cursor),
+        FS | GS | RS => view.write_run(&[code], protected),
+        CR => view.apply(Edit::Move(Motion::Return)),
+        HT => view.apply(Edit::Move(Motion::Tab)),
+        _ => {}
     }
 }
 
@@ -71,11 +68,13 @@ pub(crate) fn draw<S: Screen>(screen: &mut S, cursor: usize, protected: bool, st
     ensures rest { S.rest screen.new ≡ S.rest screen.old }
     ensures view { view (S.grid screen.new) result ≡ drawn protected (shown step.entry) (at (S.grid screen.old) cursor) }
 {
+    let mut view = View::at(screen, cursor);
     match step {
-        Step::Run(run, _) => write_run(screen, cursor, run, protected),
-        Step::Address(row, column) => move_to(screen, cursor, row, column),
-        Step::Escape(letter) => draw_escape(screen, cursor, protected, letter),
-        Step::Control(code) => draw_control(screen, cursor, protected, code),
-        Step::Broken => on_screen(screen, cursor),
+        Step::Run(run, _) => view.write_run(run, protected),
+        Step::Address(row, column) => view.move_to(row, column),
+        Step::Escape(letter) => draw_escape(&mut view, protected, letter),
+        Step::Control(code) => draw_control(&mut view, protected, code),
+        Step::Broken => {}
     }
+    view.cursor()
 }

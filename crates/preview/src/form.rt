@@ -86,8 +86,8 @@ fn status<S: Screen, W: Write>(out: &mut W, screen: &S, state: &State) -> io::Re
     if state.light {
         out.write_all(b"the message light is on\n")?;
     }
-    if state.holds {
-        let length = state.text.text().len();
+    if let Some(text) = state.held() {
+        let length = text.len();
         writeln!(out, "a transmission of {length} characters is held")?;
     }
     Ok(())

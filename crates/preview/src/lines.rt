@@ -97,10 +97,9 @@ impl<'s, S: Stacked> OnScreen<'s, S> {
 
     // The held text, if there is one.
     fn held<R: Read, W: Write>(&self, session: &mut Session<R, W>) -> io::Result<()> {
-        if !self.state.holds {
+        let Some(text) = self.state.held() else {
             return session.out.write_all(b"-\n");
-        }
-        let text = self.state.text.text();
+        };
         let length = text.len();
         write!(session.out, "{length}")?;
         session.octets_end(text)

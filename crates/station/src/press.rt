@@ -1,7 +1,7 @@
 // Pressing a key.
 ghost use Rattle.std.specs.Prelude.{◌≡◌, true, false, cond, ◌==◌};
 ghost use Rattle.codes.specs.Ascii as ascii;
-ghost use Rattle.host.specs.Carrying.{is_some, held_of};
+ghost use Rattle.host.specs.Carrying.{held_of};
 ghost use Rattle.edit.specs.Writing.{any_open};
 ghost use Rattle.console.specs.Console.{new_console, calling};
 ghost use Rattle.station.specs.Meaning.{console_of, station_of};

@@ -52,8 +52,8 @@ fn show_cells<S: Screen>(rt: &HostRuntime, screen: &S) -> io::Result<()> {
 fn show_state(rt: &HostRuntime, state: &State, taken: bool) -> io::Result<()> {
     let (cursor, locked, light) = (state.cursor, state.locked, state.light);
     print!(rt; "cursor {cursor} lock {locked} light {light} taken {taken} held")?;
-    if state.is_held() {
-        for code in state.text.text() {
+    if let Some(text) = state.held() {
+        for code in text {
             print!(rt; " {code:02X}")?;
         }
     } else {

@@ -2,7 +2,7 @@ use Rattle.std.proofs.Common.{true, false, not, ◌&&◌, None, Ok, ap, ◌∙�
 use Rattle.text.specs.Steps.{steps_of}
 use Rattle.edit.specs.View.{at}
 use Rattle.host.specs.Drawing.{drawn_all}
-use Rattle.host.specs.Carrying.{is_some, held_of}
+use Rattle.host.specs.Carrying.{held_of}
 use Rattle.host.proofs.Steps.{at_on, drawn_all_on}
 use Rattle.console.specs.declared.fault.MessageFault.{MessageFault}
 use Rattle.station.specs.Meaning.{console_of}
