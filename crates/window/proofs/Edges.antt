@@ -1,9 +1,10 @@
 -- Places through a window, and what a write leaves outside it.
-use Rattle.std.proofs.Common.{◌≡◌, ℕ, ◌+◌, ◌*◌, ◌/◌, ◌%◌, ◌<◌, ◌≤◌, min, Bool, true, cond, ltb, ◌≢◌, List, length, get_or, set, Ok, Result, sym, refl, ap, ◌∙◌, subst, ⊎_elim, arith}
+use Rattle.std.proofs.Common.{◌≡◌, ℕ, ◌+◌, ◌*◌, ◌/◌, ◌%◌, ◌<◌, ◌≤◌, min, Bool, true, cond, ltb, ◌≢◌, List, length, get_or, set, Ok, Err, Result, sym, refl, ap, ◌∙◌, subst, ⊎_elim, arith}
 use Rattle.std.proofs.lemmas.Nat.{div_below, mod_below, div-mul-add, mod-mul-add}
-use Rattle.std.proofs.lemmas.Bool.{lt-ltb, cond-true, cases_eq, and_from, cond_both}
+use Rattle.std.proofs.lemmas.Bool.{lt-ltb, le-ltb, cond-true, cases_eq, and_from, cond_both}
 use Rattle.std.proofs.lemmas.List.{ext_get_or, length-set, get_or-set_other}
 use Rattle.screen.specs.declared.refusal.Refusal.{Refusal}
+use Rattle.screen.specs.declared.refusal.Refusal.TheVariants.{OffScreen}
 use Rattle.screen.specs.Cells.{Cell, cell, blank}
 use Rattle.screen.specs.Grid.{Grid, Sound, with_cells, has_place, writable, written}
 use Rattle.screen.specs.Answers.{on_screen, place_at}
@@ -11,7 +12,7 @@ use Rattle.screen.specs.View.{table, Into, length_table, get_or_table}
 use Rattle.screen.proofs.Views.{found}
 use Rattle.window.specs.Part.{corner, inside, outside, windowed, window_into}
 
-pub length_windowed : (h w : ℕ) (g : Grid) → length (windowed h w g).cells ≡ min h g.rows * min w g.columns
+length_windowed : (h w : ℕ) (g : Grid) → length (windowed h w g).cells ≡ min h g.rows * min w g.columns
 length_windowed h w g = length_table (min h g.rows * min w g.columns) (λ k. get_or g.cells (corner g.columns (min w g.columns) k) blank)
 
 -- the row and the column in the window are the row and the column below
@@ -26,6 +27,9 @@ place_through h w g p q z s e l =
     let column : p % v < g.columns = omega (arith, mod_below p v some) in
     ap (λ x. place_at g (p / x) (p % x)) e
     ∙ ap (λ b. on_screen b (p / v * g.columns + p % v)) (and_from _ _ (lt-ltb (p / v) g.rows row) (lt-ltb (p % v) g.columns column) ∙ sym (lt-ltb p (length (windowed h w g).cells) (omega (arith, length_windowed h w g))))
+
+pub off_window : (h w : ℕ) (g : Grid) (p x n : ℕ) → n ≡ min h g.rows * min w g.columns → n ≤ p → Err OffScreen ≡ on_screen (has_place (windowed h w g) p) x
+off_window h w g p x n e l = sym (ap (λ b. on_screen b x) (le-ltb p (length (windowed h w g).cells) (omega (arith, length_windowed h w g))))
 
 -- the window's map of places, into the cells below
 pub into : (h w : ℕ) (g : Grid) → 1 ≤ w → Sound g → Into (corner g.columns (min w g.columns)) (min h g.rows * min w g.columns) (length g.cells)

@@ -1,23 +1,25 @@
 // Where a place of a window lies on the screen below.
-ghost use Rattle.std.specs.Prelude.{◌≡◌, ℕ, min};
+ghost use Rattle.std.specs.Prelude.{◌≡◌, ℕ, ◌≤◌, min};
 ghost use Rattle.screen.specs.Grid.{has_place};
 ghost use Rattle.screen.specs.Answers.{on_screen};
 ghost use Rattle.window.specs.Part.{corner, windowed};
 
-use crate::extent::Extent;
 use screen::interface::Screen;
 use screen::refusal::Refusal;
 
-// The place below of a place of a window.
+// The place below of a place of the window of this size.
 pub(crate) fn place_below<S: Screen>(
     below: &S,
-    extent: Extent,
+    rows: usize,
+    columns: usize,
     place: usize,
 ) -> Result<usize, Refusal>
-    ensures { result ≡ on_screen (has_place (windowed extent.rows extent.columns (S.grid below.now)) place) (corner (S.grid below.now).columns (min extent.columns (S.grid below.now).columns) place) }
+    requires few { rows ≤ 24 }
+    requires some { 1 ≤ columns }
+    ensures { result ≡ on_screen (has_place (windowed rows columns (S.grid below.now)) place) (corner (S.grid below.now).columns (min columns (S.grid below.now).columns) place) }
 {
-    let height = extent.rows.min(below.rows());
-    let width = extent.columns.min(below.columns());
+    let height = rows.min(below.rows());
+    let width = columns.min(below.columns());
     if place >= height * width {
         return Err(Refusal::OffScreen);
     }

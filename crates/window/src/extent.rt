@@ -1,6 +1,5 @@
-ghost use Rattle.std.specs.Prelude.{◌≡◌, ℕ, true, false, MatchResult};
+ghost use Rattle.std.specs.Prelude.{◌≡◌, ℕ, ◌≤◌, true, false, MatchResult};
 ghost use Rattle.screen.specs.declared.refusal.Refusal.TheVariants.{WrongSize};
-ghost use Rattle.screen.specs.View.{Sized};
 ghost use Rattle.window.specs.Part.{fits_in};
 
 use screen::interface::Screen;
@@ -11,7 +10,10 @@ use screen::refusal::Refusal;
 pub struct Extent {
     pub rows: usize,
     pub columns: usize,
-    ghost sized: { Sized rows columns },
+    ghost row_least: { 2 ≤ rows },
+    ghost row_most: { rows ≤ 24 },
+    ghost column_least: { 1 ≤ columns },
+    ghost column_most: { columns ≤ 80 },
 }
 
 impl Extent {

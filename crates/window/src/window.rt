@@ -1,4 +1,4 @@
-ghost use Rattle.std.specs.Prelude.{◌≡◌, ℕ};
+ghost use Rattle.std.specs.Prelude.{◌≡◌, ℕ, ◌≤◌};
 ghost use Rattle.std.specs.Borrow.{GName};
 ghost use Rattle.screen.specs.Grid.{Grid};
 ghost use Rattle.window.specs.Part.{windowed, windowed_sound, outside};
@@ -12,17 +12,26 @@ use screen::refusal::Refusal;
 #[derive(Drop)]
 pub struct Window<'s, S> {
     below: &'s mut S,
-    extent: Extent,
+    rows: usize,
+    columns: usize,
+    ghost row_least: { 2 ≤ rows },
+    ghost row_most: { rows ≤ 24 },
+    ghost column_least: { 1 ≤ columns },
+    ghost column_most: { columns ≤ 80 },
 }
 
 impl<'s, S: Screen> Window<'s, S> {
     pub fn new(below: &'s mut S, extent: Extent) -> Window<'s, S>
         ensures name { result.below.ghost_name ≡ below.entry.ghost_name }
         ensures below { result.below.now ≡ below.old }
-        ensures rows { result.extent.rows ≡ extent.rows }
-        ensures columns { result.extent.columns ≡ extent.columns }
+        ensures rows { result.rows ≡ extent.rows }
+        ensures columns { result.columns ≡ extent.columns }
     {
-        Window { below, extent }
+        Window {
+            below,
+            rows: extent.rows,
+            columns: extent.columns,
+        }
     }
 
     // The screen below, as it stands.
@@ -34,30 +43,32 @@ impl<'s, S: Screen> Window<'s, S> {
 }
 
 impl<'s, S: Screen> Screen for Window<'s, S> {
-    ghost grid = { λ t. windowed t.extent.rows t.extent.columns (S.Screen.grid t.below.now) };
+    ghost grid = { λ t. windowed t.rows t.columns (S.Screen.grid t.below.now) };
 
     // the screen below, what it leaves untouched, the window's size, and what lies outside it below
     ghost Rest = { GName × (S.Screen.Rest × ((ℕ × ℕ) × Grid)) };
 
-    ghost rest = { λ t. (t.below.ghost_name, (S.Screen.rest t.below.now, ((t.extent.rows, t.extent.columns), outside t.extent.rows t.extent.columns (S.Screen.grid t.below.now)))) };
+    ghost rest = { λ t. (t.below.ghost_name, (S.Screen.rest t.below.now, ((t.rows, t.columns), outside t.rows t.columns (S.Screen.grid t.below.now)))) };
 
-    ghost sound = { λ t. windowed_sound t.extent.rows t.extent.columns (S.Screen.grid t.below.now) t.extent.sized (S.Screen.sound t.below.now) };
+    ghost sound = { λ t. windowed_sound t.rows t.columns (S.Screen.grid t.below.now) (record { row_least = t.row_least; row_most = t.row_most; column_least = t.column_least; column_most = t.column_most }) (S.Screen.sound t.below.now) };
 
     fn rows(&self) -> usize {
-        self.extent.rows.min(self.below.rows())
+        self.rows.min(self.below.rows())
     }
 
     fn columns(&self) -> usize {
-        self.extent.columns.min(self.below.columns())
+        self.columns.min(self.below.columns())
     }
 
     fn read(&self, place: usize) -> Result<(u8, bool), Refusal> {
-        let from = place_below(self.below, self.extent, place)?;
+        let from = place_below(self.below, self.rows, self.columns, place)?;
         self.below.read(from)
     }
 
     fn write(&mut self, place: usize, code: u8, mark: bool) -> Result<(), Refusal> {
-        let to = place_below(self.below, self.extent, place)?;
+        let rows = self.rows;
+        let columns = self.columns;
+        let to = place_below(self.below, rows, columns, place)?;
         self.below.write(to, code, mark)
     }
 }
