@@ -2,6 +2,7 @@
 ghost use Rattle.std.specs.Prelude.{◌≡◌, ◌%◌, ◌<◌, ◌≤◌, true, slice_index_or};
 ghost use Rattle.screen.specs.Cells.{cell, blank, storable};
 ghost use Rattle.edit.specs.View.{size};
+ghost use Rattle.edit.specs.Parts.{is_open};
 
 use codes::SPACE;
 use screen::interface::Screen;
@@ -31,4 +32,12 @@ pub fn cell_at<S: Screen>(screen: &S, place: usize) -> (u8, bool)
     ensures stored { storable result.0 ≡ true }
 {
     screen.read(place).unwrap_or((SPACE, false))
+}
+
+// Whether the cell at a place is open.
+pub fn is_open<S: Screen>(screen: &S, place: usize) -> bool
+    ensures { result ≡ is_open (slice_index_or (S.grid screen.now).cells place blank) }
+{
+    let (_, protected) = cell_at(screen, place);
+    !protected
 }

@@ -2,7 +2,7 @@
 ghost use Rattle.std.specs.Prelude.{◌≡◌, ◌+◌, ◌-◌, ◌≤◌, true, if◌then◌else◌, nat_lt, slice_index_or};
 ghost use Rattle.screen.specs.Cells.{cell, blank, storable};
 
-use crate::cell::{cell_at, cell_count};
+use crate::cell::{cell_at, cell_count, is_open};
 use crate::edits::Reach;
 use crate::view::View;
 use codes::SPACE;
@@ -48,7 +48,7 @@ impl<'s, S: Screen> View<'s, S> {
         let screen = &*self.screen;
         let end = self.room_end(reach);
         (self.cursor..end)
-            .find(|place| cell_at(screen, *place).1)
+            .find(|place| !is_open(screen, *place))
             .unwrap_or(end)
     }
 
@@ -70,7 +70,7 @@ impl<'s, S: Screen> View<'s, S> {
         ensures view { shown self.new ≡ view (redraw (shown self.old).grid self.old.cursor (end - self.old.cursor) open_erased) self.old.cursor }
     {
         for k in self.cursor..end {
-            if !cell_at(self.screen, k).1 {
+            if is_open(self.screen, k) {
                 let _ = self.screen.write(k, SPACE, false);
             }
         }

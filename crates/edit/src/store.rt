@@ -3,7 +3,7 @@ ghost use Rattle.std.specs.Prelude.{◌≡◌, ◌<◌, ◌≤◌, nat_lt, IfSom
 ghost use Rattle.edit.specs.View.{size, at};
 ghost use Rattle.edit.specs.Writing.{open_from, first_open, any_open, stored};
 
-use crate::cell::{cell_at, cell_count, on_screen};
+use crate::cell::{cell_count, is_open, on_screen};
 use crate::moves::round;
 use crate::view::View;
 use screen::interface::Screen;
@@ -13,7 +13,7 @@ fn open_from<S: Screen>(screen: &S, from: usize) -> Option<usize>
     requires { from ≤ size (S.grid screen.now) }
     ensures { result ≡ (if nat_lt (open_from (S.grid screen.now) from) (size (S.grid screen.now)) then Some (open_from (S.grid screen.now) from) else None) }
 {
-    (from..cell_count(screen)).find(|place| !cell_at(screen, *place).1)
+    (from..cell_count(screen)).find(|place| is_open(screen, *place))
 }
 
 // The same, going round.
