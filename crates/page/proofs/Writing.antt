@@ -1,7 +1,8 @@
 -- A page's numbers written one after another.
-use Rattle.std.proofs.Common.{◌≡◌, ℕ, ◌+◌, ◌<◌, ◌≤◌, List, [], ◌∷◌, ◌++◌, map, length, get_or, take, ap, sym, ◌∙◌, arith, length-append}
+use Rattle.std.proofs.Common.{drop, ◌≡◌, ℕ, ◌+◌, ◌<◌, ◌≤◌, List, [], ◌∷◌, ◌++◌, map, length, get_or, take, ap, sym, ◌∙◌, arith, length-append}
 use Rattle.std.specs.List.{flat_map}
-use Rattle.std.proofs.lemmas.List.{take_more, take_at, flat_map_more, get_or-append-add, get_or-map, get_or-take, length-map}
+use Rattle.std.proofs.lemmas.List.{append_assoc, drop-drop, take_more, take_at, flat_map_more, get_or-append-add, get_or-map, get_or-take, length-map}
+use Rattle.std.proofs.lemmas.List.Edits.{sets, sets-eq}
 use Rattle.std.proofs.lemmas.List.Folds.{length-flat_map-take}
 use Rattle.area.specs.Over.{over, written_at}
 use Rattle.area.proofs.Areas.{over_written}
@@ -11,6 +12,13 @@ use Rattle.page.specs.Numbers.{number}
 use Rattle.page.specs.Pages.{Page, cell_number, page_numbers}
 use Rattle.page.specs.Calls.{octets_at, reads, ReadsBack}
 use Rattle.page.proofs.Trips.{reads_back}
+
+-- octets that are set one after another
+pub written_by_sets : (a : List ℕ) (p : ℕ) (os : List ℕ) → p + length os ≤ length a → sets a p os ≡ written_at a p os
+written_by_sets a p os h =
+    sets-eq os a p h
+    ∙ append_assoc (take p a) os (drop (p + length os) a)
+    ∙ ap (λ d. take p a ++ (os ++ d)) (sym (drop-drop (length os) p a))
 
 -- the octets of the first i numbers
 abbrev pub first : List ℕ → ℕ → List ℕ
