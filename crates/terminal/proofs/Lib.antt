@@ -1,4 +1,3 @@
-mod Cleared
 mod Front
 mod Heard
 mod Texts

@@ -1,18 +1,16 @@
-use Rattle.std.proofs.Common.{true, false, not, ◌&&◌, None, Ok, ap, ◌∙◌}
+use Rattle.std.proofs.Common.{false}
 use Rattle.text.specs.Steps.{steps_of}
 use Rattle.edit.specs.View.{at}
 use Rattle.host.specs.Drawing.{drawn_all}
 use Rattle.host.specs.Carrying.{held_of}
 use Rattle.host.proofs.Steps.{at_on, drawn_all_on}
-use Rattle.console.specs.declared.fault.MessageFault.{MessageFault}
 use Rattle.station.specs.Meaning.{console_of}
-use Rattle.station.specs.Station.{said}
 use Rattle.station.proofs.Views.{left_at}
 use Rattle.terminal.proofs.Texts.{carried_parts}
 use Rattle.terminal.proofs.obey.carry_text.Goals as goal
 
-pub returns : goal.returns
-returns g c =
+pub returns-clause-after : goal.returns-clause-after
+returns-clause-after g c =
     let here = g.S.Screen.grid c.args.screen.now in
     let was = c.args.console.now in
     let ss = steps_of c.args.text.now in
@@ -21,8 +19,4 @@ returns g c =
     let there = g.S.Screen.grid c.carry_out-taken_up.new.screen in
     let left = c.carry_out-taken_up.new.state in
     let seen = left_at there left.cursor (drawn_all false ss v) (drawn_all_on false ss v (at_on here was.host.cursor (g.S.Screen.sound c.args.screen.now))) e.view in
-    record {
-      rest = e.rest;
-      answer = ap Ok c.silent.ensures ∙ ap (λ b. said {R = MessageFault} b false true None) (e.answer ∙ ap (λ h. is_some h && not (is_some (held_of was.host))) e.held);
-      after = carried_parts ss (console_of was) v (at there left.cursor) left.locked left.light (held_of left) seen e.held e.locked e.light;
-    }
+    carried_parts ss (console_of was) v (at there left.cursor) left.locked left.light (held_of left) seen e.held e.locked e.light
