@@ -1,7 +1,6 @@
 -- What a caller sees of an event is what the definition says: no reply to a key, and the reply to an octet in the area.
 use Rattle.std.proofs.Common.{◌≡◌, ℕ, ◌<◌, ◌≤◌, ltb, List, length, take, Ok, Err, Result, sym, refl, ap, ◌∙◌, arith}
 use Rattle.std.proofs.lemmas.Bool.{cond_both, cond-true, cond-false, lt-ltb}
-use Rattle.area.specs.Over.{over}
 use Rattle.line.specs.Kind.{Kind}
 use Rattle.receiver.specs.declared.fault.Fault as below
 use Rattle.receiver.specs.declared.receive.Event.{Event}
@@ -18,6 +17,7 @@ use Rattle.station.specs.Station.{Station, Outcome, silent, message_outcome}
 use Rattle.station.specs.Terminal.{State, keyed, told, heard_by, heard_outcome, taken, received}
 use Rattle.console.specs.declared.answer.Answer.{Answer}
 use Rattle.history.specs.Trace.{key, octet, outcome_of}
+use Rattle.terminal.specs.Does.{Does}
 use Rattle.terminal.specs.Seen.{reply_length, seen_key, seen_octet}
 use Rattle.terminal.proofs.Front.{written_first}
 
@@ -52,11 +52,12 @@ pub key_seen : (k : Kind) (id : Identity) (c : ℕ) (s : State) (r : Result Answ
 key_seen k id c s r t a b = cc
 
 pub octet_seen : (k : Kind) (id : Identity) (c : ℕ) (before : List ℕ) (s : State) (r : Result Answer OctetRefusal) (area : List ℕ) (t : State)
-    → r ≡ (received k id c (length before) s).answer → area ≡ over (received k id c (length before) s).reply before → t ≡ (received k id c (length before) s).after
-    → outcome_of k id (octet c (length before)) s ≡ seen_octet r area t
-octet_seen k id c before s r area t a w b =
+    → Does (received k id c (length before) s) r before area t → outcome_of k id (octet c (length before)) s ≡ seen_octet r area t
+octet_seen k id c before s r area t d =
     let o : Outcome OctetRefusal State = received k id c (length before) s in
     let first : take (reply_length r) area ≡ o.reply =
-    ap (λ x. take (reply_length x) area) a ∙ ap (λ n. take n area) (reply_told k id c (length before) s) ∙ ap (take (length o.reply)) w ∙ written_first o.reply before in
+    ap (λ x. take (reply_length x) area) d.answer ∙ ap (λ n. take n area) (reply_told k id c (length before) s) ∙ ap (take (length o.reply)) d.area ∙ written_first o.reply before in
     let p : o.reply ≡ take (reply_length r) area = sym first in
+    let a = d.answer in
+    let b = d.after in
     cc

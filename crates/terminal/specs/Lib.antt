@@ -1,3 +1,4 @@
+pub mod Does
 pub mod Events
 pub mod Meaning
 pub mod Same

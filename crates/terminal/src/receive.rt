@@ -1,9 +1,9 @@
 // Pressing a key, and receiving an octet. After every history of a terminal both keep the law of the crate `history`.
 ghost use Rattle.std.specs.Prelude.{◌≡◌, length};
-ghost use Rattle.area.specs.Over.{over};
 ghost use Rattle.station.specs.Terminal.{keyed, received};
 ghost use Rattle.history.specs.Trace.{key as by_key, octet as by_octet};
 ghost use Rattle.history.specs.Law.{KeepsLaw};
+ghost use Rattle.terminal.specs.Does.{Does};
 ghost use Rattle.terminal.specs.Meaning.{state_of};
 ghost use Rattle.terminal.specs.Same.{SameTerminal};
 ghost use Rattle.terminal.specs.Seen.{seen_key, seen_octet};
@@ -30,9 +30,7 @@ impl<'s, L: Line, S: Screen> Terminal<'s, L, S> {
     // Receives an octet, with an area for the reply.
     pub fn receive(&mut self, octet: u8, area: &mut [u8]) -> Result<Answer, OctetRefusal>
         ensures same { SameTerminal S.Screen.rest self.old self.new }
-        ensures answer { result ≡ (received L.Line.kind self.old.identity octet (length area.old) (state_of L.Line.wants S.Screen.grid self.old)).answer }
-        ensures area { area.new ≡ over (received L.Line.kind self.old.identity octet (length area.old) (state_of L.Line.wants S.Screen.grid self.old)).reply area.old }
-        ensures after { state_of L.Line.wants S.Screen.grid self.new ≡ (received L.Line.kind self.old.identity octet (length area.old) (state_of L.Line.wants S.Screen.grid self.old)).after }
+        ensures does { Does (received L.Line.kind self.old.identity octet (length area.old) (state_of L.Line.wants S.Screen.grid self.old)) result area.old area.new (state_of L.Line.wants S.Screen.grid self.new) }
         ensures law { KeepsLaw L.Line.kind self.old.identity (by_octet octet (length area.old)) (state_of L.Line.wants S.Screen.grid self.old) (seen_octet result area.new (state_of L.Line.wants S.Screen.grid self.new)) }
     {
         let Some(room) = area.first_chunk_mut::<ROOM>() else {

@@ -1,9 +1,9 @@
 // A list of keys and octets, one after the other.
 ghost use Rattle.std.specs.Prelude.{◌≡◌, map, length, MatchResult};
-ghost use Rattle.area.specs.Over.{over};
 ghost use Rattle.history.specs.Trace.{outcome_of};
 ghost use Rattle.history.specs.Runs.{RanLawfully};
 ghost use Rattle.terminal.specs.Events.{event_of};
+ghost use Rattle.terminal.specs.Does.{Does};
 ghost use Rattle.terminal.specs.Meaning.{state_of};
 ghost use Rattle.terminal.specs.Same.{SameTerminal};
 
@@ -24,9 +24,7 @@ impl<'s, L: Line, S: Screen> Terminal<'s, L, S> {
     // One event, with an area for a reply.
     fn step(&mut self, event: Event, area: &mut [u8]) -> Result<Answer, Refusal>
         ensures same { SameTerminal S.Screen.rest self.old self.new }
-        ensures answer { result ≡ (outcome_of L.Line.kind self.old.identity (event_of (length area.old) event) (state_of L.Line.wants S.Screen.grid self.old)).answer }
-        ensures area { area.new ≡ over (outcome_of L.Line.kind self.old.identity (event_of (length area.old) event) (state_of L.Line.wants S.Screen.grid self.old)).reply area.old }
-        ensures after { state_of L.Line.wants S.Screen.grid self.new ≡ (outcome_of L.Line.kind self.old.identity (event_of (length area.old) event) (state_of L.Line.wants S.Screen.grid self.old)).after }
+        ensures does { Does (outcome_of L.Line.kind self.old.identity (event_of (length area.old) event) (state_of L.Line.wants S.Screen.grid self.old)) result area.old area.new (state_of L.Line.wants S.Screen.grid self.new) }
     {
         match event {
             Event::Key(key) => self.press(key).map_err(Refusal::from),

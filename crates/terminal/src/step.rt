@@ -1,9 +1,9 @@
 // An octet that is taken: what line and receiver hear is answered.
 ghost use Rattle.std.specs.Prelude.{◌≡◌, length, Ok};
-ghost use Rattle.area.specs.Over.{over};
 ghost use Rattle.receiver.specs.Meaning.{message_of};
 ghost use Rattle.receiver.specs.Hearing.{hear};
 ghost use Rattle.station.specs.Terminal.{taken, heard_by, heard_fault, heard_outcome};
+ghost use Rattle.terminal.specs.Does.{Does};
 ghost use Rattle.terminal.specs.Meaning.{state_of};
 ghost use Rattle.terminal.specs.Same.{SameTerminal};
 
@@ -31,9 +31,7 @@ impl<'s, L: Line, S: Screen> Terminal<'s, L, S> {
     // Answers what line and receiver made of an octet.
     fn respond(&mut self, event: Event, area: &mut [u8; ROOM]) -> Result<Answer, OctetRefusal>
         ensures same { SameTerminal S.Screen.rest self.old self.new }
-        ensures answer { result ≡ (heard_outcome L.Line.kind self.old.identity (Ok event) (message_of self.old.receiver) (state_of L.Line.wants S.Screen.grid self.old)).answer }
-        ensures area { area.new ≡ over (heard_outcome L.Line.kind self.old.identity (Ok event) (message_of self.old.receiver) (state_of L.Line.wants S.Screen.grid self.old)).reply area.old }
-        ensures after { state_of L.Line.wants S.Screen.grid self.new ≡ (heard_outcome L.Line.kind self.old.identity (Ok event) (message_of self.old.receiver) (state_of L.Line.wants S.Screen.grid self.old)).after }
+        ensures does { Does (heard_outcome L.Line.kind self.old.identity (Ok event) (message_of self.old.receiver) (state_of L.Line.wants S.Screen.grid self.old)) result area.old area.new (state_of L.Line.wants S.Screen.grid self.new) }
     {
         match event {
             Event::Message(kept) => {
@@ -51,10 +49,8 @@ impl<'s, L: Line, S: Screen> Terminal<'s, L, S> {
     // Takes an octet that has room for its reply.
     pub(crate) fn take(&mut self, octet: u8, area: &mut [u8; ROOM]) -> Result<Answer, OctetRefusal>
         ensures same { SameTerminal S.Screen.rest self.old self.new }
-        ensures answer { result ≡ (taken L.Line.kind self.old.identity octet (state_of L.Line.wants S.Screen.grid self.old)).answer }
-        ensures area { area.new ≡ over (taken L.Line.kind self.old.identity octet (state_of L.Line.wants S.Screen.grid self.old)).reply area.old }
+        ensures does { Does (taken L.Line.kind self.old.identity octet (state_of L.Line.wants S.Screen.grid self.old)) result area.old area.new (state_of L.Line.wants S.Screen.grid self.new) }
         ensures room { length area.new ≡ length area.old }
-        ensures after { state_of L.Line.wants S.Screen.grid self.new ≡ (taken L.Line.kind self.old.identity octet (state_of L.Line.wants S.Screen.grid self.old)).after }
     {
         let event = self.hear(octet)?;
         self.respond(event, area)

@@ -1,6 +1,5 @@
 use Rattle.std.proofs.Common.{◌≡◌, ℕ, ◌+◌, [], ◌∷◌, ◌++◌, map, length, get_or, take, vec_items, ap, ◌∙◌, subst, arith}
 use Rattle.std.proofs.lemmas.List.{take_more, take_all, map_push}
-use Rattle.area.specs.Over.{over}
 use Rattle.station.specs.declared.fault.Refusal.{Refusal}
 use Rattle.station.specs.declared.identity.Identity.{Identity}
 use Rattle.station.specs.Station.{Outcome}
@@ -10,6 +9,7 @@ use Rattle.history.specs.Runs.{Ran}
 use Rattle.history.proofs.Longer.{ran_more, ran_lawfully}
 use Rattle.terminal.specs.declared.run.Event.{Event}
 use Rattle.terminal.specs.declared.run.Event.TheVariants.{Key}
+use Rattle.terminal.specs.Does.{Does}
 use Rattle.terminal.specs.Events.{event_of}
 use Rattle.terminal.specs.Meaning.{state_of}
 use Rattle.terminal.proofs.terminal.Terminal.run.Goals as goal
@@ -28,6 +28,7 @@ loop-event-preserved g c =
     let e = c.step.ensures in
     let at : ℕ → Identity → Outcome Refusal State = λ n x. outcome_of k x (event_of n event) b in
     let same : at (length c.loop-event.area) c.loop-event.self.identity ≡ at room id = ap (λ n. at n c.loop-event.self.identity) c.loop-event.auto.area ∙ ap (at room) inv.4 in
+    let does = subst (λ o. Does o c.step.result c.loop-event.area c.step.new.area (state c.step.new.self)) same e.does in
     let more : map (event_of room) (take (i + 1) events) ≡ map (event_of room) (take i events) ++ (event_of room event ∷ []) =
     ap (map (event_of room)) (take_more events i (Key 0) c.loop-event-test.true) ∙ map_push (event_of room) (take i events) event in (
       c.push_reserved.ensures.len ∙ ap (λ n. n + 1) inv.0,
@@ -36,9 +37,9 @@ loop-event-preserved g c =
       e.same.rest ∙ inv.3,
       e.same.identity ∙ inv.4,
       ran_more k id _ _ _ _ _ _ _ _ _ _ (event_of room event) c.step.result inv.5
-          (e.answer ∙ ap (λ (o : Outcome Refusal State). o.answer) same)
-          (e.area ∙ ap (λ (o : Outcome Refusal State). over o.reply c.loop-event.area) same)
-          (e.after ∙ ap (λ (o : Outcome Refusal State). o.after) same)
+          does.answer
+          does.area
+          does.after
           more
           c.push_reserved.ensures.items,
     )
