@@ -3,3 +3,4 @@ pub mod Events
 pub mod Meaning
 pub mod Same
 pub mod Seen
+pub mod Sends

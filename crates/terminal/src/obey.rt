@@ -7,6 +7,7 @@ ghost use Rattle.console.specs.Console.{acknowledges_text, polled, spoken};
 ghost use Rattle.station.specs.Meaning.{console_of, station_of};
 ghost use Rattle.station.specs.Station.{carries_out, obeyed};
 ghost use Rattle.station.specs.Terminal.{told};
+ghost use Rattle.terminal.specs.Sends.{Sends};
 
 use crate::send::{ROOM, Sender};
 use area::Refusal;
@@ -32,8 +33,7 @@ fn carry_text<S: Screen>(screen: &mut S, console: &mut Console, text: &[u8]) -> 
 impl<'a, L: Line> Sender<'a, L> {
     // What there is to send, or no traffic: the answer to a poll with nothing outstanding.
     fn send_fresh(&self, area: &mut [u8; ROOM], console: &mut Console) -> Result<usize, Refusal>
-        ensures length { result ≡ Ok (length (spoken L.Line.kind self.now.identity.identifiers None (console_of console.old)).octets) }
-        ensures area { area.new ≡ over (spoken L.Line.kind self.now.identity.identifiers None (console_of console.old)).octets area.old }
+        ensures sends { Sends (spoken L.Line.kind self.now.identity.identifiers None (console_of console.old)).octets result area.old area.new }
         ensures after { console_of console.new ≡ (spoken L.Line.kind self.now.identity.identifiers None (console_of console.old)).console }
         ensures cursor { console.new.host.cursor ≡ console.old.host.cursor }
     {
@@ -48,8 +48,7 @@ impl<'a, L: Line> Sender<'a, L> {
 
     // What a poll is answered with, once it has settled what it acknowledges: DLE ENQ while a reply is still outstanding.
     fn speak(&self, area: &mut [u8; ROOM], console: &mut Console) -> Result<usize, Refusal>
-        ensures length { result ≡ Ok (length (spoken L.Line.kind self.now.identity.identifiers console.old.outstanding (console_of console.old)).octets) }
-        ensures area { area.new ≡ over (spoken L.Line.kind self.now.identity.identifiers console.old.outstanding (console_of console.old)).octets area.old }
+        ensures sends { Sends (spoken L.Line.kind self.now.identity.identifiers console.old.outstanding (console_of console.old)).octets result area.old area.new }
         ensures after { console_of console.new ≡ (spoken L.Line.kind self.now.identity.identifiers console.old.outstanding (console_of console.old)).console }
         ensures cursor { console.new.host.cursor ≡ console.old.host.cursor }
     {

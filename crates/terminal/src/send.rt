@@ -1,9 +1,9 @@
 // Replies of the station, composed into the caller's area.
-ghost use Rattle.std.specs.Prelude.{◌≡◌, ◌+◌, ◌≤◌, ◌++◌, length, Ok};
-ghost use Rattle.area.specs.Over.{over};
+ghost use Rattle.std.specs.Prelude.{◌+◌, ◌≤◌, ◌++◌, length};
 ghost use Rattle.reply.specs.Octets.{no_traffic_octets};
 ghost use Rattle.console.specs.Console.{content, load_codes, enquiry, framed};
 ghost use Rattle.station.specs.Meaning.{console_of};
+ghost use Rattle.terminal.specs.Sends.{Sends};
 
 use area::Refusal;
 use codes::{DLE, ENQ, ETX, STX};
@@ -36,8 +36,7 @@ impl<'a, L: Line> Sender<'a, L> {
         text: &[u8],
     ) -> Result<usize, Refusal>
         requires { length acknowledgement.now + length first.now + length text.now ≤ 5770 }
-        ensures area { area.new ≡ over (framed L.Line.kind self.now.identity.identifiers (acknowledgement.now ++ (first.now ++ text.now))) area.old }
-        ensures length { result ≡ Ok (length (framed L.Line.kind self.now.identity.identifiers (acknowledgement.now ++ (first.now ++ text.now)))) }
+        ensures { Sends (framed L.Line.kind self.now.identity.identifiers (acknowledgement.now ++ (first.now ++ text.now))) result area.old area.new }
     {
         let line = self.line;
         let station = self.identity.identifiers;
@@ -60,8 +59,7 @@ impl<'a, L: Line> Sender<'a, L> {
         load: Load,
     ) -> Result<usize, Refusal>
         requires { length acknowledgement.now ≤ 2 }
-        ensures area { area.new ≡ over (framed L.Line.kind self.now.identity.identifiers (acknowledgement.now ++ load_codes load (console_of console.now))) area.old }
-        ensures length { result ≡ Ok (length (framed L.Line.kind self.now.identity.identifiers (acknowledgement.now ++ load_codes load (console_of console.now)))) }
+        ensures { Sends (framed L.Line.kind self.now.identity.identifiers (acknowledgement.now ++ load_codes load (console_of console.now))) result area.old area.new }
     {
         match (load, console.held(), console.call) {
             (Load::Text, Some(text), _) => self.compose(area, acknowledgement, &[STX], text),
@@ -77,8 +75,7 @@ impl<'a, L: Line> Sender<'a, L> {
         console: &Console,
         reply: Outstanding,
     ) -> Result<usize, Refusal>
-        ensures area { area.new ≡ over (framed L.Line.kind self.now.identity.identifiers (content reply (console_of console.now))) area.old }
-        ensures length { result ≡ Ok (length (framed L.Line.kind self.now.identity.identifiers (content reply (console_of console.now)))) }
+        ensures { Sends (framed L.Line.kind self.now.identity.identifiers (content reply (console_of console.now))) result area.old area.new }
     {
         let both = [DLE, ACKNOWLEDGE];
         let acknowledgement: &[u8] = if reply.acknowledges { &both } else { &[] };
@@ -87,16 +84,14 @@ impl<'a, L: Line> Sender<'a, L> {
 
     // DLE ENQ: a reply is still to be acknowledged.
     pub(crate) fn send_enquiry(&self, area: &mut [u8; ROOM]) -> Result<usize, Refusal>
-        ensures area { area.new ≡ over (framed L.Line.kind self.now.identity.identifiers enquiry) area.old }
-        ensures length { result ≡ Ok (length (framed L.Line.kind self.now.identity.identifiers enquiry)) }
+        ensures { Sends (framed L.Line.kind self.now.identity.identifiers enquiry) result area.old area.new }
     {
         self.compose(area, &[DLE, ENQ], &[], &[])
     }
 
     // EOT EOT ETX: nothing to send.
     pub(crate) fn send_no_traffic(&self, area: &mut [u8; ROOM]) -> Result<usize, Refusal>
-        ensures area { area.new ≡ over (no_traffic_octets L.Line.kind) area.old }
-        ensures length { result ≡ Ok (length (no_traffic_octets L.Line.kind)) }
+        ensures { Sends (no_traffic_octets L.Line.kind) result area.old area.new }
     {
         Ok(no_traffic(self.line, area)?.length)
     }

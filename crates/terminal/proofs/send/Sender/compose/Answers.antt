@@ -24,4 +24,4 @@ returns g c =
     let joined : ((ack ++ first) ++ text) ++ (ETX ∷ []) ≡ (ack ++ (first ++ text)) ++ (ETX ∷ []) = simp append_assoc in
     let whole : Shows g.L.Line.kind before soh_first (from ((ack ++ (first ++ text)) ++ (ETX ∷ []))) c.in_ok-closed.closed c.close.new.area =
     subst (λ t. Shows g.L.Line.kind before soh_first (from t) c.in_ok-closed.closed c.close.new.area) joined shown in
-    record { area = whole.octets; length = ap Ok whole.count }
+    record { area = whole.octets; count = ap Ok whole.count }
