@@ -1,5 +1,6 @@
 pub mod Identity
 pub mod Meaning
+pub mod Numbers
 pub mod Shown
 pub mod Station
 pub mod Terminal

@@ -1,8 +1,10 @@
 // A station's identity.
 ghost use Rattle.std.specs.Prelude.{◌≡◌, ℕ, ◌≤◌, false, MatchResult};
 ghost use Rattle.station.specs.Identity.{is_identity};
+ghost use Rattle.station.specs.Numbers.{identity_number};
 
 use console::identity::Identity as Identifiers;
+use numbered::Numbered;
 
 // The remote identifier, 21 to 4F, and the station identifier, 51 to 6F.
 #[derive(Clone, Copy)]
@@ -18,6 +20,14 @@ pub struct Identity {
 #[derive(Clone, Copy, PartialEq, Eq, Debug)]
 pub enum IdentityRefusal {
     OutOfRange = 15,
+}
+
+impl Numbered for IdentityRefusal {
+    ghost number_of = { identity_number };
+
+    fn number(&self) -> u8 {
+        *self as u8
+    }
 }
 
 impl Identity {

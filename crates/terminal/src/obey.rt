@@ -5,7 +5,7 @@ ghost use Rattle.text.specs.Steps.{steps_of};
 ghost use Rattle.console.specs.declared.fault.MessageFault as fault;
 ghost use Rattle.console.specs.Console.{acknowledges_text, polled, spoken};
 ghost use Rattle.station.specs.Meaning.{console_of, station_of};
-ghost use Rattle.station.specs.Station.{carries_out, obeyed};
+ghost use Rattle.station.specs.Station.{said, carries_out, obeyed};
 ghost use Rattle.station.specs.Terminal.{told};
 ghost use Rattle.terminal.specs.Sends.{Sends};
 
@@ -65,7 +65,7 @@ impl<'a, L: Line> Sender<'a, L> {
         console: &mut Console,
         acknowledges: bool,
     ) -> Result<Answer, Refusal>
-        ensures answer { result ≡ Ok (record { taken_up = false; acknowledged = acknowledges_text acknowledges console.old.outstanding; carried_out = false; reply = Some (length (polled L.Line.kind self.now.identity.identifiers acknowledges (console_of console.old)).octets) }) }
+        ensures answer { result ≡ said false (acknowledges_text acknowledges console.old.outstanding) false (Some (length (polled L.Line.kind self.now.identity.identifiers acknowledges (console_of console.old)).octets)) }
         ensures area { area.new ≡ over (polled L.Line.kind self.now.identity.identifiers acknowledges (console_of console.old)).octets area.old }
         ensures after { console_of console.new ≡ (polled L.Line.kind self.now.identity.identifiers acknowledges (console_of console.old)).console }
         ensures cursor { console.new.host.cursor ≡ console.old.host.cursor }
