@@ -1,7 +1,6 @@
 // What a terminal has beside its screen, its line and its receiver.
-ghost use Rattle.std.specs.Prelude.{◌≡◌};
+ghost use Rattle.std.specs.Prelude.{◌≡◌, option_copied};
 ghost use Rattle.host.specs.Carrying.{held_of};
-ghost use Rattle.station.specs.Shown.{text_in};
 
 use console::outstanding::Outstanding;
 use host::state::State;
@@ -21,7 +20,7 @@ pub struct Console {
 impl Console {
     // The text of the transmission that waits for its acknowledgement.
     pub fn held(&self) -> Option<&[u8]>
-        ensures { text_in (λ t. t.now) result ≡ held_of self.now.host }
+        ensures { option_copied result ≡ held_of self.now.host }
     {
         if self.host.is_held() {
             Some(self.host.text.text())

@@ -1,5 +1,5 @@
 -- What a caller of a terminal sees of an event.
-use Rattle.std.specs.Prelude.{ℕ, List, [], take, Some, None, Ok, Err, Option, Result}
+use Rattle.std.specs.Prelude.{ℕ, List, [], take, unwrap_or, Ok, Err, Result}
 use Rattle.console.specs.declared.answer.Answer.{Answer}
 use Rattle.console.specs.declared.fault.KeyRefusal.{KeyRefusal}
 use Rattle.console.specs.declared.fault.OctetRefusal.{OctetRefusal}
@@ -9,13 +9,9 @@ use Rattle.station.specs.Station.{Outcome}
 use Rattle.station.specs.Terminal.{State}
 use Rattle.history.specs.Trace.{refused_as}
 
-abbrev pub or_none : Option ℕ → ℕ
-or_none None = 0
-or_none (Some n) = n
-
 -- how many octets an answer says the reply has
 abbrev pub reply_length : {R : Type 0} → Result Answer R → ℕ
-reply_length (Ok a) = or_none a.reply
+reply_length (Ok a) = unwrap_or a.reply 0
 reply_length (Err r) = 0
 
 -- a key: its answer, and the state after it

@@ -1,7 +1,6 @@
 // What can be seen of a terminal.
-ghost use Rattle.std.specs.Prelude.{◌≡◌};
+ghost use Rattle.std.specs.Prelude.{◌≡◌, option_copied};
 ghost use Rattle.screen.specs.Answers.{read_at};
-ghost use Rattle.station.specs.Shown.{text_in};
 ghost use Rattle.terminal.specs.Meaning.{state_of};
 
 use crate::terminal::Terminal;
@@ -56,7 +55,7 @@ impl<'s, L: Line, S: Screen> Terminal<'s, L, S> {
 
     // The text of the transmission that waits for its acknowledgement.
     pub fn held(&self) -> Option<&[u8]>
-        ensures { text_in (λ x. x.now) result ≡ (state_of L.Line.wants S.Screen.grid self.now).station.console.held }
+        ensures { option_copied result ≡ (state_of L.Line.wants S.Screen.grid self.now).station.console.held }
     {
         self.console.held()
     }
