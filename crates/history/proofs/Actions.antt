@@ -8,7 +8,7 @@ use Rattle.message.specs.Forms.{poll, poll_acknowledge, repeat_request, text}
 use Rattle.edit.specs.Writing.{any_open}
 use Rattle.edit.specs.Laws.{is_key}
 use Rattle.transmission.specs.Laws.{Plain}
-use Rattle.host.specs.Carrying.{is_some}
+use Rattle.std.specs.Prelude.{is_some}
 use Rattle.station.specs.declared.identity.Identity.{Identity}
 use Rattle.console.specs.declared.key.KeyAction.{KeyAction}
 use Rattle.console.specs.declared.key.KeyAction.TheVariants.{Store, Edit, Transmit, Call, Unlock}

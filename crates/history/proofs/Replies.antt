@@ -7,7 +7,7 @@ use Rattle.codes.specs.Ascii.{SOH, STX, ETX, EOT, DLE, SYN}
 use Rattle.line.specs.Kind.{Kind, GivesBack}
 use Rattle.message.specs.Forms.{poll, poll_acknowledge}
 use Rattle.transmission.specs.Laws.{Plain}
-use Rattle.host.specs.Carrying.{is_some}
+use Rattle.std.specs.Prelude.{is_some}
 use Rattle.reply.specs.Octets.{lead, octets, checked, no_traffic, no_traffic_octets}
 use Rattle.station.specs.declared.identity.Identity.{Identity}
 use Rattle.console.specs.declared.outstanding.Load.{Load}

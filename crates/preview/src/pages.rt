@@ -23,7 +23,7 @@ impl<'s, S: Stacked> OnScreen<'s, S> {
         let cursor = words.next_number()?;
         let cursor_word = *words.word();
         words.end_line()?;
-        let mut area = vec![in session.heap; 0u8; length.min(MOST)].map_err(io::Error::from)?;
+        let mut area = vec![in session.heap; 0u8; length.min(MOST)]?;
         write!(session.out, "pagewrite {length_word} {cursor_word}")?;
         match write_page(self.screen, cursor, &mut area) {
             Ok(count) => {

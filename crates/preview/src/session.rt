@@ -125,14 +125,7 @@ impl<R: Read, W: Write> Session<R, W> {
 
     // The octets of the rest of the line.
     pub fn octets(&mut self) -> Result<Vec<u8>, RunError> {
-        let mut all = Vec::new(self.heap);
-        for _ in 0..u64::MAX {
-            let Some(octet) = self.words.next_octet()? else {
-                break;
-            };
-            all.push(octet).map_err(io::Error::from)?;
-        }
-        Ok(all)
+        self.words.octets().try_collect(self.heap)
     }
 
     // The end of an answer: octets.

@@ -1,5 +1,6 @@
 -- A station: what its user sees, and what it holds and owes. What a key and a whole message do to it.
-use Rattle.std.specs.Prelude.{ℕ, Bool, true, false, cond, not, ◌&&◌, ◌||◌, List, [], length, Some, None, Ok, Err, Option, Result, ◌==◌}
+use Rattle.std.specs.Prelude.{ℕ, Bool, true, false, cond, not, ◌&&◌, ◌||◌, List, [], length, Some, None, Ok, Err, Option, Result, ◌==◌, is_some}
+use Rattle.std.specs.Option.{option_or}
 use Rattle.codes.specs.Ascii.{BEL}
 use Rattle.line.specs.Kind.{Kind}
 use Rattle.text.specs.Steps.{Step, steps_of}
@@ -9,7 +10,7 @@ use Rattle.edit.specs.Edits.{edited}
 use Rattle.edit.specs.Writing.{any_open, stored}
 use Rattle.transmission.specs.Text.{taken}
 use Rattle.host.specs.Drawing.{drawn_all}
-use Rattle.host.specs.Carrying.{is_lock, is_light, some_step, taking, or_else, is_some}
+use Rattle.host.specs.Carrying.{is_lock, is_light, some_step, taking}
 use Rattle.console.specs.declared.answer.Answer.{Answer}
 use Rattle.console.specs.declared.fault.KeyRefusal.{KeyRefusal}
 use Rattle.console.specs.declared.fault.MessageFault.{MessageFault}
@@ -83,9 +84,9 @@ pressed c s = key_outcome (action_now c s) s
 -- a host text whose steps are xs, and whose first transmission takes x
 abbrev pub carried : List Step → Option (List ℕ) → Console → Console
 carried xs x d = record {
-  locked = some_step is_lock xs || is_some (or_else d.held x);
+  locked = some_step is_lock xs || is_some (option_or d.held x);
   light = d.light || some_step is_light xs;
-  held = or_else d.held x;
+  held = option_or d.held x;
   call = d.call;
   outstanding = d.outstanding;
   due = true;
@@ -93,7 +94,7 @@ carried xs x d = record {
 
 -- with one held, nothing is taken up
 abbrev pub newly_held : Option (List ℕ) → Option (List ℕ) → Bool
-newly_held held x = is_some (or_else held x) && not (is_some held)
+newly_held held x = is_some (option_or held x) && not (is_some held)
 
 abbrev pub carries_out : {R : Type 0} → List Step → Station → Outcome R Station
 carries_out xs s =

@@ -39,7 +39,7 @@ impl Console {
         };
         match reply.load {
             Load::Nothing => {}
-            Load::Text => self.host.holds = false,
+            Load::Text => self.host.held = None,
             Load::Call => self.call = None,
         }
         reply.load == Load::Text

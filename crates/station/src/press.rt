@@ -1,5 +1,5 @@
 // Pressing a key.
-ghost use Rattle.std.specs.Prelude.{◌≡◌, true, false, cond, ◌==◌};
+ghost use Rattle.std.specs.Prelude.{◌≡◌, true, false, cond, ◌==◌, is_some};
 ghost use Rattle.codes.specs.Ascii as ascii;
 ghost use Rattle.host.specs.Carrying.{held_of};
 ghost use Rattle.edit.specs.Writing.{any_open};
@@ -68,8 +68,7 @@ impl Console {
     fn transmit<S: Screen>(&mut self, screen: &S, kind: Kind)
         ensures { station_of (S.grid screen.now) self.new ≡ does_key (KeyAction.Transmit kind) (station_of (S.grid screen.now) self.old) }
     {
-        self.host.text.take_up(screen, self.host.cursor, kind);
-        self.host.holds = true;
+        self.host.take_up(screen, kind);
         self.host.locked = true;
     }
 

@@ -1,7 +1,4 @@
 // What a terminal has beside its screen, its line and its receiver.
-ghost use Rattle.std.specs.Prelude.{◌≡◌, option_copied};
-ghost use Rattle.host.specs.Carrying.{held_of};
-
 use console::outstanding::Outstanding;
 use host::state::State;
 
@@ -15,17 +12,4 @@ pub struct Console {
     pub outstanding: Option<Outstanding>,
     // a host text was carried out since the last fresh acknowledgement
     pub due: bool,
-}
-
-impl Console {
-    // The text of the transmission that waits for its acknowledgement.
-    pub fn held(&self) -> Option<&[u8]>
-        ensures { option_copied result ≡ held_of self.now.host }
-    {
-        if self.host.is_held() {
-            Some(self.host.text.text())
-        } else {
-            None
-        }
-    }
 }

@@ -57,7 +57,7 @@ impl<'s, L: Line, S: Screen> Terminal<'s, L, S> {
     pub fn held(&self) -> Option<&[u8]>
         ensures { option_copied result ≡ (state_of L.Line.wants S.Screen.grid self.now).station.console.held }
     {
-        self.console.held()
+        self.console.host.held()
     }
 
     // The call that waits for its acknowledgement.

@@ -61,7 +61,7 @@ impl<'a, L: Line> Sender<'a, L> {
         requires { length acknowledgement.now ≤ 2 }
         ensures { Sends (framed L.Line.kind self.now.identity.identifiers (acknowledgement.now ++ load_codes load (console_of console.now))) result area.old area.new }
     {
-        match (load, console.held(), console.call) {
+        match (load, console.host.held(), console.call) {
             (Load::Text, Some(text), _) => self.compose(area, acknowledgement, &[STX], text),
             (Load::Call, _, Some(code)) => self.compose(area, acknowledgement, &[code], &[]),
             _ => self.compose(area, acknowledgement, &[], &[]),
