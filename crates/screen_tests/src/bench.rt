@@ -16,22 +16,25 @@ fn move_two_turned<S: Screen>(screen: &mut S) {
     move_two(&mut top);
 }
 
-// By the turning layer.
-pub fn turning_calls<S: Screen>(screen: &mut S, columns: usize) -> Result<u64, Refusal> {
+fn calls<S: Screen>(screen: &mut S, columns: usize, turning: bool) -> Result<u64, Refusal> {
     let rows = screen.rows();
     let extent = Extent::within(screen, rows, columns)?;
     let mut window = Window::new(screen, extent);
     let mut counted = Counted::new(&mut window);
-    move_two_turned(&mut counted);
+    if turning {
+        move_two_turned(&mut counted);
+    } else {
+        move_two(&mut counted);
+    }
     Ok(counted.calls)
+}
+
+// By the turning layer.
+pub fn turning_calls<S: Screen>(screen: &mut S, columns: usize) -> Result<u64, Refusal> {
+    calls(screen, columns, true)
 }
 
 // Cell by cell.
 pub fn copying_calls<S: Screen>(screen: &mut S, columns: usize) -> Result<u64, Refusal> {
-    let rows = screen.rows();
-    let extent = Extent::within(screen, rows, columns)?;
-    let mut window = Window::new(screen, extent);
-    let mut counted = Counted::new(&mut window);
-    move_two(&mut counted);
-    Ok(counted.calls)
+    calls(screen, columns, false)
 }

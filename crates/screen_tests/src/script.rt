@@ -2,6 +2,7 @@
 ghost use Rattle.std.specs.Prelude.{◌≡◌};
 ghost use Rattle.screen.specs.Grid.{writable};
 ghost use Rattle.screen.specs.Answers.{on_screen};
+ghost use Rattle.screen_tests.specs.Size.{SameSize};
 
 use codes::{FS, HT, RS};
 use screen::interface::Screen;
@@ -10,8 +11,7 @@ use screen::refusal::Refusal;
 // Letters in the first and the last cells, some protected, with a tab stop and a start of entry.
 fn fill_in<S: Screen>(screen: &mut S, last: usize)
     ensures rest { S.rest screen.new ≡ S.rest screen.old }
-    ensures rows { (S.grid screen.new).rows ≡ (S.grid screen.old).rows }
-    ensures columns { (S.grid screen.new).columns ≡ (S.grid screen.old).columns }
+    ensures size { SameSize (S.grid screen.old) (S.grid screen.new) }
 {
     let _ = screen.write(0, b'A', true);
     let _ = screen.write(1, b'B', false);
@@ -24,8 +24,7 @@ fn fill_in<S: Screen>(screen: &mut S, last: usize)
 // Rows removed and inserted, the first and the last too.
 fn move_rows<S: Screen>(screen: &mut S, bottom: usize)
     ensures rest { S.rest screen.new ≡ S.rest screen.old }
-    ensures rows { (S.grid screen.new).rows ≡ (S.grid screen.old).rows }
-    ensures columns { (S.grid screen.new).columns ≡ (S.grid screen.old).columns }
+    ensures size { SameSize (S.grid screen.old) (S.grid screen.new) }
 {
     let _ = screen.insert_row(0);
     let _ = screen.insert_row(1);
@@ -38,8 +37,7 @@ fn move_rows<S: Screen>(screen: &mut S, bottom: usize)
 // Calls off the screen and of a character that no cell holds: the number of those refused.
 fn refused_calls<S: Screen>(screen: &mut S, rows: usize, end: usize) -> u8
     ensures rest { S.rest screen.new ≡ S.rest screen.old }
-    ensures rows { (S.grid screen.new).rows ≡ (S.grid screen.old).rows }
-    ensures columns { (S.grid screen.new).columns ≡ (S.grid screen.old).columns }
+    ensures size { SameSize (S.grid screen.old) (S.grid screen.new) }
 {
     let place = screen.write(end, b'X', false);
     let code = screen.write(0, 0x7f, false);
@@ -54,8 +52,7 @@ fn refused_calls<S: Screen>(screen: &mut S, rows: usize, end: usize) -> u8
 // The script: answers how many calls were refused, of the four that should be.
 pub fn script<S: Screen>(screen: &mut S) -> u8
     ensures rest { S.rest screen.new ≡ S.rest screen.old }
-    ensures rows { (S.grid screen.new).rows ≡ (S.grid screen.old).rows }
-    ensures columns { (S.grid screen.new).columns ≡ (S.grid screen.old).columns }
+    ensures size { SameSize (S.grid screen.old) (S.grid screen.new) }
 {
     let rows = screen.rows();
     let columns = screen.columns();
@@ -83,16 +80,7 @@ pub fn write_and_read<S: Screen>(
 pub fn same_cells<A: Screen, B: Screen>(a: &A, b: &B) -> bool {
     let rows = a.rows();
     let columns = a.columns();
-    if rows != b.rows() || columns != b.columns() {
-        return false;
-    }
-    for place in 0..rows * columns {
-        let (Ok(x), Ok(y)) = (a.read(place), b.read(place)) else {
-            return false;
-        };
-        if x != y {
-            return false;
-        }
-    }
-    true
+    rows == b.rows()
+        && columns == b.columns()
+        && (0..rows * columns).all(|place| a.read(place) == b.read(place))
 }

@@ -1,6 +1,7 @@
 // The script over stacks of layers. Each layer gives the screen below back, so that the contracts tell what the caller's area holds then.
 ghost use Rattle.std.specs.Prelude.{◌≡◌, drop};
 ghost use Rattle.window.specs.Part.{outside};
+ghost use Rattle.screen_tests.specs.Size.{SameSize};
 
 use crate::script::script;
 use screen::interface::Screen;
@@ -14,8 +15,7 @@ use window::window::Window;
 // Through a turning layer.
 pub fn turned<S: Screen>(screen: &mut S) -> u8
     ensures rest { S.rest screen.new ≡ S.rest screen.old }
-    ensures rows { (S.grid screen.new).rows ≡ (S.grid screen.old).rows }
-    ensures columns { (S.grid screen.new).columns ≡ (S.grid screen.old).columns }
+    ensures size { SameSize (S.grid screen.old) (S.grid screen.new) }
 {
     let mut top = Turning::new(screen);
     script(&mut top)
@@ -24,8 +24,7 @@ pub fn turned<S: Screen>(screen: &mut S) -> u8
 // In a window with a turning layer over it: the cells outside the window stay.
 pub fn in_window<S: Screen>(screen: &mut S, rows: usize, columns: usize) -> Result<u8, Refusal>
     ensures rest { S.rest screen.new ≡ S.rest screen.old }
-    ensures rows { (S.grid screen.new).rows ≡ (S.grid screen.old).rows }
-    ensures columns { (S.grid screen.new).columns ≡ (S.grid screen.old).columns }
+    ensures size { SameSize (S.grid screen.old) (S.grid screen.new) }
     ensures outside { outside rows columns (S.grid screen.new) ≡ outside rows columns (S.grid screen.old) }
 {
     let extent = Extent::within(screen, rows, columns)?;
@@ -40,8 +39,7 @@ pub fn in_turned_window<S: Screen>(
     columns: usize,
 ) -> Result<u8, Refusal>
     ensures rest { S.rest screen.new ≡ S.rest screen.old }
-    ensures rows { (S.grid screen.new).rows ≡ (S.grid screen.old).rows }
-    ensures columns { (S.grid screen.new).columns ≡ (S.grid screen.old).columns }
+    ensures size { SameSize (S.grid screen.old) (S.grid screen.new) }
 {
     let mut turned = Turning::new(screen);
     in_window(&mut turned, rows, columns)

@@ -2,10 +2,10 @@ ghost use Rattle.std.specs.Prelude.{◌≡◌, ℕ, ◌-◌};
 ghost use Rattle.std.specs.Borrow.{GName};
 ghost use Rattle.screen.specs.Grid.{has_row, removed, inserted};
 ghost use Rattle.screen.specs.Answers.{done_if};
-ghost use Rattle.turning.specs.Order.{turned_by, turned_sound, freed_below};
+ghost use Rattle.turning.specs.Order.{Permutes, turned_by, turned_sound, freed_below};
 
-use crate::below::place_below;
-use crate::order::Order;
+use crate::below::{place_below, row_below};
+use crate::order::{Order, fitting, natural_order, turned_down, turned_up};
 use screen::interface::Screen;
 use screen::refusal::Refusal;
 
@@ -14,6 +14,7 @@ use screen::refusal::Refusal;
 pub struct Turning<'s, S> {
     below: &'s mut S,
     order: Order,
+    ghost ordered: { Permutes order.at order.rows },
 }
 
 impl<'s, S: Screen> Turning<'s, S> {
@@ -24,7 +25,7 @@ impl<'s, S: Screen> Turning<'s, S> {
         ensures grid { turned_by result.order.at result.order.rows (S.grid result.below.now) ≡ S.grid below.old }
     {
         let rows = below.rows();
-        let order = Order::natural(rows);
+        let order = natural_order(rows);
         Turning { below, order }
     }
 
@@ -44,7 +45,7 @@ impl<'s, S: Screen> Screen for Turning<'s, S> {
 
     ghost rest = { λ t. (t.below.ghost_name, S.Screen.rest t.below.now) };
 
-    ghost sound = { λ t. turned_sound t.order.at t.order.rows (S.Screen.grid t.below.now) t.order.permutes (S.Screen.sound t.below.now) };
+    ghost sound = { λ t. turned_sound t.order.at t.order.rows (S.Screen.grid t.below.now) t.ordered (S.Screen.sound t.below.now) };
 
     fn rows(&self) -> usize {
         self.below.rows()
@@ -69,8 +70,8 @@ impl<'s, S: Screen> Screen for Turning<'s, S> {
         if row >= rows {
             return Err(Refusal::OffScreen);
         }
-        let order = self.order.fitted(rows);
-        self.below.clear_row(order.row(row))
+        let order = fitting(self.order, rows);
+        self.below.clear_row(row_below(order, row))
     }
 
     // moves no cell: the row below that is freed becomes the last row
@@ -84,9 +85,9 @@ impl<'s, S: Screen> Screen for Turning<'s, S> {
         if row >= rows {
             return Err(Refusal::OffScreen);
         }
-        let order = self.order.fitted(rows);
-        let freed = order.row(row);
-        self.order = order.turned_up(row);
+        let order = fitting(self.order, rows);
+        let freed = row_below(order, row);
+        self.order = turned_up(order, row);
         self.below.clear_row(freed)
     }
 
@@ -101,9 +102,9 @@ impl<'s, S: Screen> Screen for Turning<'s, S> {
         if row >= rows {
             return Err(Refusal::OffScreen);
         }
-        let order = self.order.fitted(rows);
-        let freed = order.row(rows - 1);
-        self.order = order.turned_down(row);
+        let order = fitting(self.order, rows);
+        let freed = row_below(order, rows - 1);
+        self.order = turned_down(order, row);
         self.below.clear_row(freed)
     }
 }

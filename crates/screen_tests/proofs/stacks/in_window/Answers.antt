@@ -27,7 +27,6 @@ returns g c =
     ∙ ap (λ x. outside c.args.rows x (S.grid made)) columns in
     record {
       rest = ap S.rest back ∙ ap (λ (x : T). x.1.0) e ∙ ap S.rest same;
-      rows = ap (λ x. (S.grid x).rows) back ∙ ap (λ (x : Grid). x.rows) outer ∙ ap (λ x. (S.grid x).rows) same;
-      columns = ap (λ x. (S.grid x).columns) back ∙ ap (λ (x : Grid). x.columns) outer ∙ ap (λ x. (S.grid x).columns) same;
+      size = record { rows = ap (λ x. (S.grid x).rows) back ∙ ap (λ (x : Grid). x.rows) outer ∙ ap (λ x. (S.grid x).rows) same; columns = ap (λ x. (S.grid x).columns) back ∙ ap (λ (x : Grid). x.columns) outer ∙ ap (λ x. (S.grid x).columns) same };
       outside = ap (λ x. outside c.args.rows c.args.columns (S.grid x)) back ∙ outer ∙ ap (λ x. outside c.args.rows c.args.columns (S.grid x)) same;
     }
