@@ -10,7 +10,7 @@ use codes::{DLE, ENQ, ETX, STX};
 use console::outstanding::{Load, Outstanding};
 use line::Line;
 use message::ACKNOWLEDGE;
-use reply::begun::{Begun, Closed};
+use reply::begun::Begun;
 use reply::no_traffic::no_traffic;
 use station::action::DID;
 use station::identity::Identity;
@@ -46,8 +46,7 @@ impl<'a, L: Line> Sender<'a, L> {
         let started = acknowledged.put_all(line, area, first)?;
         let told = started.put_all(line, area, text)?;
         let ended = told.put(line, area, ETX)?;
-        let closed: Closed = ended.close(line, area)?;
-        Ok(closed.length)
+        Ok(ended.close(line, area)?.length)
     }
 
     // An acknowledgement or nothing, and then the load: the held text or call.

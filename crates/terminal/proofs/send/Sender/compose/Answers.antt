@@ -20,8 +20,8 @@ returns g c =
     let started = c.in_ok-started.ensures.extends before soh_first (from ack) acknowledged in
     let told = c.in_ok-told.ensures.extends before soh_first (from (ack ++ first)) started in
     let ended = c.in_ok-ended.ensures.extends before soh_first (from ((ack ++ first) ++ text)) told in
-    let shown = c.in_ok-closed.ensures.ends before soh_first (from (((ack ++ first) ++ text) ++ (ETX ∷ []))) ended in
+    let shown = c.in_ok-close.ensures.ends before soh_first (from (((ack ++ first) ++ text) ++ (ETX ∷ []))) ended in
     let joined : ((ack ++ first) ++ text) ++ (ETX ∷ []) ≡ (ack ++ (first ++ text)) ++ (ETX ∷ []) = simp append_assoc in
-    let whole : Shows g.L.Line.kind before soh_first (from ((ack ++ (first ++ text)) ++ (ETX ∷ []))) c.in_ok-closed.closed c.close.new.area =
-    subst (λ t. Shows g.L.Line.kind before soh_first (from t) c.in_ok-closed.closed c.close.new.area) joined shown in
+    let whole : Shows g.L.Line.kind before soh_first (from ((ack ++ (first ++ text)) ++ (ETX ∷ []))) c.in_ok-close.field-0 c.close.new.area =
+    subst (λ t. Shows g.L.Line.kind before soh_first (from t) c.in_ok-close.field-0 c.close.new.area) joined shown in
     record { area = whole.octets; count = ap Ok whole.count }
