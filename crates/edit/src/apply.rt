@@ -1,16 +1,14 @@
 // Carries out edits.
-ghost use Rattle.std.specs.Prelude.{◌≡◌};
-ghost use Rattle.edit.specs.View.{view, at};
-ghost use Rattle.edit.specs.Moves.{addressed};
-ghost use Rattle.edit.specs.Edits.{edited};
-
-use crate::cell::{cell_count, on_screen};
+use crate::cell::cell_count;
 use crate::edits::{Change, Edit};
 use crate::view::View;
 use screen::interface::Screen;
 
 impl<'s, S: Screen> View<'s, S> {
-    ghost use Rattle.edit.specs.Edits.{redrawn};
+    ghost use Rattle.std.specs.Prelude.{◌≡◌};
+    ghost use Rattle.edit.specs.View.{view};
+    ghost use Rattle.edit.specs.Moves.{addressed};
+    ghost use Rattle.edit.specs.Edits.{redrawn, edited};
     ghost use Rattle.edit.specs.Shown.{shown, beside};
 
     // Changes cells at the cursor.
@@ -56,22 +54,4 @@ impl<'s, S: Screen> View<'s, S> {
             self.cursor = place;
         }
     }
-}
-
-// Carries out one edit with the cursor at a place, and answers where it is then.
-pub fn apply<S: Screen>(screen: &mut S, cursor: usize, edit: Edit) -> usize
-    ensures rest { S.rest screen.new ≡ S.rest screen.old }
-    ensures view { view (S.grid screen.new) result ≡ edited edit (at (S.grid screen.old) cursor) }
-{
-    let mut view = View::at(screen, cursor);
-    view.apply(edit);
-    view.cursor()
-}
-
-// Where an address takes the cursor.
-pub fn move_to<S: Screen>(screen: &S, cursor: usize, row: u8, column: u8) -> usize
-    ensures { view (S.grid screen.now) result ≡ addressed row column (at (S.grid screen.now) cursor) }
-{
-    let place = on_screen(screen, cursor);
-    screen.place(row as usize, column as usize).unwrap_or(place)
 }

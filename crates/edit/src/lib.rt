@@ -1,7 +1,7 @@
 // What steps of a host text and keys do to the cells of a screen and its cursor.
 #![tactic(auto)]
 
-pub mod apply;
+mod apply;
 pub mod cell;
 pub mod edits;
 pub mod laws;
@@ -9,4 +9,4 @@ mod moves;
 mod parts;
 pub mod store;
 pub mod view;
-pub mod write;
+mod write;

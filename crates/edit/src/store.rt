@@ -1,6 +1,6 @@
 // The keys that store a character.
 ghost use Rattle.std.specs.Prelude.{◌≡◌, ◌<◌, ◌≤◌, nat_lt, IfSome, if◌then◌else◌, Some, None};
-ghost use Rattle.edit.specs.View.{size, at};
+ghost use Rattle.edit.specs.View.{size};
 ghost use Rattle.edit.specs.Writing.{open_from, first_open, any_open, stored};
 
 use crate::cell::{cell_count, is_open, on_screen};
@@ -50,20 +50,5 @@ impl<'s, S: Screen> View<'s, S> {
         let _ = self.screen.write(place, code, false);
         self.cursor = next;
         true
-    }
-}
-
-// Stores one character with the cursor at a place, and answers the place of the next one; none where every cell is
-// protected, and then nothing is stored.
-pub fn store<S: Screen>(screen: &mut S, cursor: usize, code: u8) -> Option<usize>
-    ensures rest { S.rest screen.new ≡ S.rest screen.old }
-    ensures answer { result ≡ (if any_open (S.grid screen.old) then Some (stored code (at (S.grid screen.old) cursor)).cursor else None) }
-    ensures grid { S.grid screen.new ≡ (if any_open (S.grid screen.old) then (stored code (at (S.grid screen.old) cursor)).grid else S.grid screen.old) }
-{
-    let mut view = View::at(screen, cursor);
-    if view.store(code) {
-        Some(view.cursor())
-    } else {
-        None
     }
 }

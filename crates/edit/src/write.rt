@@ -1,15 +1,12 @@
 // Writes characters at the cursor.
-ghost use Rattle.std.specs.Prelude.{◌≡◌};
-ghost use Rattle.edit.specs.View.{view, at};
-ghost use Rattle.edit.specs.Writing.{typed_run};
-
 use crate::cell::cell_count;
 use crate::moves::round;
 use crate::view::View;
 use screen::interface::Screen;
 
 impl<'s, S: Screen> View<'s, S> {
-    ghost use Rattle.edit.specs.Writing.{typed};
+    ghost use Rattle.std.specs.Prelude.{◌≡◌};
+    ghost use Rattle.edit.specs.Writing.{typed, typed_run};
     ghost use Rattle.edit.specs.Shown.{shown, beside};
 
     // Writes a character over any cell at the cursor, which goes on by one.
@@ -31,14 +28,4 @@ impl<'s, S: Screen> View<'s, S> {
             self.write_one(*code, protected);
         }
     }
-}
-
-// Writes one run with the cursor at a place, and answers where it is then.
-pub fn write_run<S: Screen>(screen: &mut S, cursor: usize, run: &[u8], protected: bool) -> usize
-    ensures rest { S.rest screen.new ≡ S.rest screen.old }
-    ensures view { view (S.grid screen.new) result ≡ typed_run protected run.now (at (S.grid screen.old) cursor) }
-{
-    let mut view = View::at(screen, cursor);
-    view.write_run(run, protected);
-    view.cursor()
 }

@@ -12,9 +12,9 @@ use codes::BEL;
 use console::answer::Answer;
 use console::fault::KeyRefusal;
 use console::key::{Guards, KeyAction};
-use edit::apply::apply;
 use edit::edits::Edit;
-use edit::store::{any_open, store};
+use edit::store::any_open;
+use edit::view::View;
 use host::state::State;
 use screen::interface::Screen;
 use transmission::kind::Kind;
@@ -53,16 +53,19 @@ impl Console {
         ensures rest { S.rest screen.new ≡ S.rest screen.old }
         ensures after { station_of (S.grid screen.new) self.new ≡ does_key (KeyAction.Store code) (station_of (S.grid screen.old) self.old) }
     {
-        if let Some(next) = store(screen, self.host.cursor, code) {
-            self.host.cursor = next;
-        }
+        let mut view = View::at(screen, self.host.cursor);
+        let _ = view.store(code);
+        self.host.cursor = view.cursor();
     }
 
+    #[tactic(auto, using(host::proofs::Steps::at_view))]
     fn edit<S: Screen>(&mut self, screen: &mut S, edit: Edit)
         ensures rest { S.rest screen.new ≡ S.rest screen.old }
         ensures after { station_of (S.grid screen.new) self.new ≡ does_key (KeyAction.Edit edit) (station_of (S.grid screen.old) self.old) }
     {
-        self.host.cursor = apply(screen, self.host.cursor, edit);
+        let mut view = View::at(screen, self.host.cursor);
+        view.apply(edit);
+        self.host.cursor = view.cursor();
     }
 
     fn transmit<S: Screen>(&mut self, screen: &S, kind: Kind)

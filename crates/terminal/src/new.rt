@@ -11,8 +11,8 @@ ghost use Rattle.history.specs.Trace.{New};
 ghost use Rattle.terminal.specs.Meaning.{state_of};
 
 use crate::terminal::Terminal;
-use edit::apply::apply;
 use edit::edits::{Change, Edit};
+use edit::view::View;
 use line::Line;
 use receiver::message::Receiver;
 use screen::interface::Screen;
@@ -24,7 +24,8 @@ fn clear<S: Screen>(screen: &mut S)
     ensures rest { S.rest screen.new ≡ S.rest screen.old }
     ensures grid { S.grid screen.new ≡ with_cells (S.grid screen.old) (replicate (size (S.grid screen.old)) blank) }
 {
-    let _ = apply(screen, 0, Edit::Change(Change::EraseAll));
+    let mut view = View::at(screen, 0);
+    view.apply(Edit::Change(Change::EraseAll));
 }
 
 impl<'s, L: Line, S: Screen> Terminal<'s, L, S> {
