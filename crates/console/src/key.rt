@@ -7,7 +7,7 @@ use codes::{BEL, HT, RS};
 use edit::edits::{Change, Edit, Motion, Reach};
 use transmission::kind::Kind;
 
-#[derive(Clone, Copy)]
+#[derive(Clone, Copy, PartialEq, Eq, Debug)]
 pub enum KeyAction {
     // into the first open cell
     Store(u8),

@@ -1,14 +1,10 @@
 // The fields of a form: the runs of open cells between protected ones, in reading order.
 use codes::SPACE;
-use edit::cell::{cell_at, cell_count};
+use edit::cell::{cell_at, cell_count, is_open};
 use screen::interface::Screen;
 use std::io;
 use std::io::Write;
 use std::ops::Range;
-
-fn is_open<S: Screen>(screen: &S, place: usize) -> bool {
-    !cell_at(screen, place).1
-}
 
 fn is_visible<S: Screen>(screen: &S, place: usize) -> bool {
     cell_at(screen, place).0 > SPACE

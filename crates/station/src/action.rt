@@ -15,7 +15,7 @@ pub const DID: u8 = 0x70;
 // The station identifier that a poll of any station carries.
 pub const GENERAL: u8 = 0x50;
 
-#[derive(Clone, Copy)]
+#[derive(Clone, Copy, PartialEq, Eq, Debug)]
 pub enum MessageAction<'a> {
     // answers a poll, one that acknowledges or not
     Poll(bool),
