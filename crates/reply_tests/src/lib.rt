@@ -10,7 +10,7 @@ ghost use Rattle.reply_tests.specs.Characters.{characters};
 use area::Refusal;
 use codes::{ETX, STX};
 use line::Line;
-use reply::begun::Begun;
+use reply::begun::{Begun, Closed};
 
 #[cfg(test)]
 mod tests;
@@ -31,6 +31,6 @@ pub fn compose<L: Line>(
     let started = acknowledged.put(line, area, STX)?;
     let told = started.put_all(line, area, text)?;
     let ended = told.put(line, area, ETX)?;
-    let closed = ended.close(line, area)?;
+    let closed: Closed = ended.close(line, area)?;
     Ok(closed.length)
 }
