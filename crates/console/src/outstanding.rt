@@ -2,7 +2,7 @@
 ghost use Rattle.std.specs.Prelude.{◌≡◌};
 ghost use Rattle.console.specs.Console.{is_empty};
 
-// What a reply carries beside an acknowledgement.
+// What a reply carries beside an acknowledgement. Nothing is one of three loads: an Option around two would only nest them.
 #[derive(Clone, Copy, PartialEq, Eq, Debug)]
 pub enum Load {
     Nothing,

@@ -52,6 +52,8 @@ impl<'s, S: Screen> View<'s, S> {
             .unwrap_or(end)
     }
 
+    // Four loops, and not one with a closure: the second leaves cells out, the third reads ahead, the last carries a cell.
+
     // Makes the cells before the end open spaces.
     pub(crate) fn erase(&mut self, end: usize)
         requires { (self.old.cursor ≤ end) × (end ≤ size (shown self.old).grid) }

@@ -1,4 +1,5 @@
-// A terminal's state: new, and as transmissions and other effects change it.
+// A terminal's state: new, and as transmissions and other effects change it. Each change leaves other parts alone, so no one
+// fact says what stays.
 ghost use Rattle.std.specs.Prelude.{◌≡◌, true, false, ◌||◌, Some, None, is_some, option_copied};
 ghost use Rattle.std.specs.Option.{option_or};
 ghost use Rattle.edit.specs.View.{at};

@@ -10,6 +10,8 @@ use codes::SYN;
 
 const FULL: u8 = 2;
 
+// No one type serves this line and the asynchronous one: with the numbers as parameters the law of the lead would fail at
+// some, and a line without parity would share nothing.
 #[derive(Clone, Copy)]
 pub struct SyncLine {
     wanted: u8,

@@ -18,6 +18,7 @@ pub fn codes<W: Write>(out: &mut W, codes: &[u8]) -> io::Result<()> {
     Ok(())
 }
 
+// The layer that refused; a type of one's own with a Display would say no more.
 pub fn layer(cause: &Cause) -> &'static str {
     match cause {
         Cause::Line(_) => "line",

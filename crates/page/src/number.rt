@@ -27,7 +27,8 @@ pub(crate) fn first_number(octets: &[u8]) -> Result<(usize, usize), Refusal>
     }
 }
 
-// Writes a number's octets from a place on, where they have room, and answers the place behind them.
+// Writes a number's octets from a place on, where they have room, and answers the place behind them: a writer
+// that kept area and place would owe clauses on both.
 pub(crate) fn put_number(area: &mut [u8], place: usize, n: usize) -> usize
     requires small { n < 2 ^ 14 }
     requires room { place + length (number n) ≤ length area.old }

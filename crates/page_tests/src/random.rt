@@ -33,6 +33,7 @@ fn character(n: u32) -> u8 {
 // Fills a screen with random cells, and answers a random cursor place on it.
 pub fn fill<S: Screen>(screen: &mut S, seed: u32) -> usize {
     let mut random = Random::new(seed);
+    // as many on every screen, so that the cells of a seed stay the same
     for place in 0..1920 {
         let code = character(random.next());
         let _ = screen.write(place, code, random.next() % 2 == 0);

@@ -38,7 +38,8 @@ pub struct Fault {
     pub kept: usize,
 }
 
-// A line's fault, with the count of the characters kept when it came: the line does not know it.
+// A line's fault, with the count of the characters kept when it came: the line does not know it. The
+// layers' faults are types of their own, since From makes each of the one below.
 #[derive(Clone, Copy)]
 pub struct BadOctet {
     pub fault: LineFault,

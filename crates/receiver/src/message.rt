@@ -10,7 +10,7 @@ pub enum Phase {
     Finished,
 }
 
-// The characters kept, in the first len places.
+// The characters kept, in the first len places: memory is fixed.
 #[derive(Drop)]
 pub struct Kept {
     pub(crate) characters: [u8; 6000],

@@ -14,7 +14,8 @@ use codes::{ETX, SOH};
 // A message keeps at most so many characters.
 const ROOM: usize = 6000;
 
-// What a character or an octet brought: nothing to tell, the beginning of a message, or a whole message of so many characters.
+// What a character or an octet brought: nothing to tell, the beginning of a message, or a whole message of so many
+// characters. Nothing is one of three answers: an Option around two would only nest them.
 #[derive(Clone, Copy, PartialEq, Eq, Debug)]
 pub enum Event {
     Nothing,

@@ -112,6 +112,7 @@ pub trait Screen {
             return Err(Refusal::OffScreen);
         }
         let columns = self.columns();
+        // from the last cell back, where a removal goes forward: so the two are no one function
         for from in (row * columns..(rows - 1) * columns).rev() {
             let _ = self.copy_cell(from + columns, from);
         }

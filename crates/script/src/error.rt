@@ -41,6 +41,7 @@ pub struct ScriptError {
     pub problem: Problem,
 }
 
+// By hand, since there are two texts: a derive has one.
 impl fmt::Display for ScriptError {
     fn fmt<W: fmt::Write>(&self, f: &mut fmt::Formatter<W>) -> fmt::Result {
         let line = self.line;

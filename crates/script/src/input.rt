@@ -7,7 +7,7 @@ use std::marker::Model;
 
 const CHUNK: usize = 65536;
 
-// The octets buffer[at..end] are read and not yet taken.
+// The octets buffer[at..end] are read and not yet taken. Memory is fixed, so this is no BufReader.
 #[derive(Drop)]
 pub struct Input<R> {
     reader: Take<R>,

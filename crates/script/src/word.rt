@@ -6,7 +6,7 @@ use std::fmt;
 // Longer words are cut here, and are no word that a script knows.
 const LONGEST: usize = 64;
 
-// The characters in the first len places.
+// The characters in the first len places: words are copied, which no vector is.
 #[derive(Clone, Copy, Debug)]
 pub struct Word {
     characters: [u8; LONGEST],

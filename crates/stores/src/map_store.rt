@@ -9,6 +9,7 @@ use screen::interface::Screen;
 use screen::refusal::Refusal;
 
 // Its own characters, beside a map of protection bits, eight cells to a byte.
+// The arrays are of the largest size, since memory is fixed.
 #[derive(Drop)]
 pub struct MapStore {
     chars: [u8; 1920],
@@ -62,7 +63,8 @@ impl Screen for MapStore {
         Ok(())
     }
 
-    // a row begins and ends with a byte of the map
+    // A row begins and ends with a byte of the map, so each move of rows is made twice: a helper that takes the move would be
+    // no shorter than these three.
     fn clear_row(&mut self, row: usize) -> Result<(), Refusal> {
         self.size.check_row(row)?;
         let Size { rows, columns, .. } = self.size;

@@ -98,6 +98,7 @@ impl<'a, L: Line> Sender<'a, L> {
                 Ok(Answer::replied(false, length))
             }
             Ok(MessageAction::CarryOut(text)) => Ok(carry_text(screen, console, text)),
+            // an arm, since with `map_err` and `?` the clause of the area stayed open
             Err(fault) => {
                 let cause = Cause::Terminal(fault);
                 Err(OctetRefusal::Fault(Fault { cause, kept }))

@@ -9,6 +9,7 @@ pub enum Step<'a> {
     Escape(char),
     // any other code, 80 to FF too
     Control(u8),
-    // an address that is broken off, or ESC at the text's end: it does nothing
+    // an address that is broken off, or ESC at the text's end: it does nothing,
+    // but is a step, since it takes characters
     Broken,
 }

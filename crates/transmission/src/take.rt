@@ -26,7 +26,8 @@ fn start_at<S: Screen>(screen: &S, cursor: usize) -> usize
     0
 }
 
-// Where a part ends without the open spaces at the end of what is sent of it, and how many of those there are.
+// Where a part ends without the open spaces at the end of what is sent of it, and how many of those there are; the one caller
+// takes the pair apart at once.
 fn trimmed_end<S: Screen>(screen: &S, from: usize, to: usize, kind: Kind) -> (usize, usize)
     requires { (from ≤ to) × (to ≤ size (S.grid screen.now)) }
     ensures left { result.1 ≡ suffix_len is_open_space (filter (is_sent kind) (between from to (S.grid screen.now).cells)) }

@@ -8,7 +8,8 @@ use crate::extent::Extent;
 use screen::interface::Screen;
 use screen::refusal::Refusal;
 
-// The upper left part of a screen, as much of it as there is.
+// The upper left part of a screen, as much of it as there is. It has the fields and facts of an extent and not the extent:
+// the borrow checker covers no type argument that holds a `&mut` beside a struct with ghost fields, as in a stack of layers.
 #[derive(Drop)]
 pub struct Window<'s, S> {
     below: &'s mut S,
