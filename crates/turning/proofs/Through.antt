@@ -1,5 +1,5 @@
 -- Places through the order.
-use Rattle.std.proofs.Common.{◌≡◌, ℕ, ◌+◌, ◌*◌, ◌/◌, ◌%◌, ◌<◌, false, ltb, List, length, get_or, Ok, Err, Result, sym, ap, ◌∙◌, subst, arith}
+use Rattle.std.proofs.Common.{◌≡◌, ℕ, ◌+◌, ◌*◌, ◌/◌, ◌%◌, ◌<◌, ltb, List, length, get_or, Ok, Result, sym, ap, ◌∙◌, subst, arith}
 use Rattle.std.proofs.lemmas.Bool.{ltb-true, lt-ltb, and_from}
 use Rattle.std.proofs.lemmas.Nat.{div_below, mod_below}
 use Rattle.screen.specs.declared.refusal.Refusal.{Refusal}
@@ -7,7 +7,7 @@ use Rattle.screen.specs.Cells.{blank}
 use Rattle.screen.specs.Grid.{Grid, Sound, has_place}
 use Rattle.screen.specs.Answers.{on_screen, split_at, place_at}
 use Rattle.screen.specs.View.{Into, length_table}
-use Rattle.screen.proofs.Answers.{on_ok, on_err}
+use Rattle.screen.proofs.Answers.{on_ok}
 use Rattle.turning.specs.Order.{under, turned_by, Permutes, fitted, fitted_permutes, under_into}
 use Rattle.turning.proofs.Turned.{Reads, reads_fitted}
 
@@ -35,24 +35,8 @@ place_through at o n q k g p row column to pm s m e t =
     ∙ ap (λ y. on_screen (has_place T p) (y * w + column)) tx
     ∙ ap (λ y. on_screen (has_place T p) (get_or x (p / w) 0 * w + y)) ec
 
-pub row_on : (g : Grid) (p row column : ℕ) → Sound g → ◌≡◌ {A = Result (ℕ × ℕ) Refusal} (Ok (row, column)) (split_at g p) → row < g.rows
-row_on g p row column s e =
-    let w = g.columns in
-    let got = on_ok (has_place g p) (p / w, p % w) (row, column) e in
-    let on : p < g.rows * w = omega (arith, ltb-true p (length g.cells) got.0, s.filled) in
-    omega (arith, ap (λ (x : ℕ × ℕ). x.0) got.1, div_below p w g.rows s.column_least on)
-
 -- the map of places of a turned screen, into the cells below
 pub into : (at : List ℕ) (n : ℕ) (g : Grid) → Permutes at n → Sound g → Into (under (fitted at n g.rows) g.columns) (g.rows * g.columns) (length g.cells)
 into at n g pm s =
     let Q : ℕ → Type 0 = λ x. Into (under (fitted at n g.rows) g.columns) (g.rows * g.columns) x in
     subst Q (sym s.filled) (under_into (fitted at n g.rows) g.rows g.columns (fitted_permutes at n g.rows pm s.row_most) s.column_least)
-
--- a place that cannot be split is none of the turned screen
-pub off_through : (at : List ℕ) (n : ℕ) (g : Grid) (p x : ℕ) (e : Refusal) → Sound g → ◌≡◌ {A = Result (ℕ × ℕ) Refusal} (Err e) (split_at g p)
-    → Err e ≡ on_screen (has_place (turned_by at n g) p) x
-off_through at n g p x e s h =
-    let q = on_err (has_place g p) (p / g.columns, p % g.columns) e h in
-    let off : has_place (turned_by at n g) p ≡ false = ap (ltb p) (length_turned at n g s) ∙ q.0 in
-    let F : Refusal → Result ℕ Refusal = λ y. Err y in
-    ap F q.1 ∙ sym (ap (λ b. on_screen b x) off)

@@ -2,16 +2,16 @@
 use Rattle.std.proofs.Common.{◌≡◌, ℕ, ◌+◌, ◌-◌, ◌*◌, ◌/◌, ◌%◌, ◌<◌, ◌≤◌, eqb, ◌≢◌, List, length, get_or, sym, refl, ap, ◌∙◌, subst, ⊎_elim, add-mul, one-mul, arith}
 use native.Mathlib.Nat.{add-div_right, add-mod_right}
 use Rattle.std.proofs.lemmas.Bool.Decides.{nat_tests}
-use Rattle.std.proofs.lemmas.Bool.{cases_order, cond-true, eq-eqb, lt-ltb}
+use Rattle.std.proofs.lemmas.Bool.{cases_order, cond-true, eq-eqb}
 use Rattle.std.proofs.lemmas.List.{ext_get_or}
 use Rattle.std.proofs.lemmas.Nat.{div-add-mod', div_below, le-div, mod_below}
 use Rattle.screen.specs.Cells.{Cell, blank}
 use Rattle.screen.specs.Rows.{clear_row, remove_row, insert_row}
-use Rattle.screen.specs.Grid.{Grid, Sound, with_cells, has_row, cleared, removed, inserted}
+use Rattle.screen.specs.Grid.{Grid, Sound, with_cells, cleared, removed, inserted}
 use Rattle.screen.specs.View.{table, length_table, get_or_table}
 use Rattle.screen.proofs.Rows.{rows_apart, clear_below, clear_within, clear_above, is_clear_row, is_remove_row, is_insert_row}
 use Rattle.screen.proofs.Grids.{clears, removes, inserts}
-use Rattle.turning.specs.Order.{under, turned, turned_by, freed_below, Permutes, Moved, up, down, natural, own, fitted, fitted_permutes, one_place}
+use Rattle.turning.specs.Order.{under, turned, turned_by, Permutes, Moved, up, down, natural, own, fitted, fitted_permutes, one_place}
 
 -- h rows of w cells, in the order given
 abbrev seen : List ℕ → ℕ → ℕ → List Cell → List Cell
@@ -176,6 +176,9 @@ pub record Reads (at : List ℕ) (n q : ℕ) (o : List ℕ) (k : ℕ) (g : Grid)
   pub count : k ≡ q
   pub rows : q ≡ g.rows
 
+pub reads : (at o : List ℕ) (n q k : ℕ) (g : Grid) → o ≡ fitted at n q → k ≡ q → q ≡ g.rows → Reads at n q o k g
+reads at o n q k g a b c = record { order = a; count = b; rows = c }
+
 pub reads_fitted : (at o : List ℕ) (n q k : ℕ) (g : Grid) → Reads at n q o k g → o ≡ fitted at n g.rows
 reads_fitted at o n q k g f = f.order ∙ ap (fitted at n) f.rows
 
@@ -233,9 +236,3 @@ insert_through at o ys n q k i g r f p s m l e u c =
     ∙ ap (λ y. with_cells g (seen ys g.rows g.columns (clear_row blank g.columns y g.cells))) fx
     ∙ ap (with_cells g) (seen_insert x ys g.rows g.columns r g.cells (fitted_permutes at n g.rows p s.row_most) v s.column_least s.filled on)
     ∙ sym (inserts (turned_by at n g) r on)
-
--- what the screen below holds then
-pub freed : (at o : List ℕ) (n q k : ℕ) (g : Grid) (r i j f : ℕ) → Reads at n q o k g → r < q → f ≡ get_or o i 0 → i ≡ j → cleared g f ≡ freed_below at n g r j
-freed at o n q k g r i j f m l e ij =
-    ap (cleared g) (e ∙ ap (λ y. get_or y i 0) (reads_fitted at o n q k g m) ∙ ap (λ y. get_or (fitted at n g.rows) y 0) ij)
-    ∙ sym (cond-true (has_row g r) (cleared g (get_or (fitted at n g.rows) j 0)) g (lt-ltb r g.rows (omega (arith, m.rows))))

@@ -4,7 +4,7 @@ use Rattle.std.proofs.Common.{sym, ◌∙◌, ap, subst, ⊎_elim, arith, mul_co
 use Rattle.std.specs.List.{range_with_len}
 use Rattle.std.proofs.lemmas.List.FromFn.{length-range_with_len, get_or-range_with_len}
 use Rattle.std.proofs.lemmas.Bool.{eqb-true, cond_both, cases_order}
-use Rattle.std.proofs.lemmas.Nat.{mul-add-lt, div_below, mod_below, div-mul-add, mod-mul-add, div-add-mod'}
+use Rattle.std.proofs.lemmas.Nat.{mul-add-lt, div_below, mod_below, same_from_place, div-add-mod'}
 use Rattle.screen.specs.Grid.{Grid, Sound, has_row, cleared}
 use Rattle.screen.specs.View.{view, Into, view_sound}
 
@@ -76,18 +76,12 @@ fitted_permutes order n h p l =
     let Q : ℕ → Type 0 = λ m. Permutes order m in
     cond_both (n == h) order natural P (λ e. subst Q (eqb-true n h e) p) (λ e. natural_permutes h l)
 
-same_row : (q f w c e : ℕ) → c < w → e < w → q * w + c ≡ f * w + e → (q ≡ f) × (c ≡ e)
-same_row q f w c e a b s = (
-  sym (div-mul-add q w c a) ∙ ap (λ n. n / w) s ∙ div-mul-add f w e b,
-  sym (mod-mul-add q w c a) ∙ ap (λ n. n % w) s ∙ mod-mul-add f w e b,
-)
-
 pub under_into : (order : List ℕ) (h w : ℕ) → Permutes order h → 0 < w → Into (under order w) (h * w) (h * w)
 unfolding under
 under_into order h w p z = record {
   below = λ k l. omega (arith, mul-add-lt _ w _ h (p.1 (k / w) (div_below k w h z l)) (mod_below k w z), mul_comm w h);
   apart = λ j k a b s.
-      let both = same_row _ _ w _ _ (mod_below j w z) (mod_below k w z) s in
+      let both = same_from_place _ _ _ _ w (mod_below j w z) (mod_below k w z) s in
       let row : j / w ≡ k / w = one_place order h (j / w) (k / w) p (div_below j w h z a) (div_below k w h z b) both.0 in
       sym (div-add-mod' j w) ∙ ap (λ n. n * w + j % w) row ∙ ap (λ n. k / w * w + n) both.1 ∙ div-add-mod' k w;
 }

@@ -4,8 +4,8 @@ ghost use Rattle.screen.specs.Grid.{has_row, removed, inserted};
 ghost use Rattle.screen.specs.Answers.{done_if};
 ghost use Rattle.turning.specs.Order.{Permutes, turned_by, turned_sound, freed_below};
 
-use crate::below::{place_below, row_below};
-use crate::order::{Order, fitting, natural_order, turned_down, turned_up};
+use crate::below::place_below;
+use crate::order::Order;
 use screen::interface::Screen;
 use screen::refusal::Refusal;
 
@@ -25,7 +25,7 @@ impl<'s, S: Screen> Turning<'s, S> {
         ensures grid { turned_by result.order.at result.order.rows (S.grid result.below.now) ≡ S.grid below.old }
     {
         let rows = below.rows();
-        let order = natural_order(rows);
+        let order = Order::natural(rows);
         Turning { below, order }
     }
 
@@ -70,8 +70,8 @@ impl<'s, S: Screen> Screen for Turning<'s, S> {
         if row >= rows {
             return Err(Refusal::OffScreen);
         }
-        let order = fitting(self.order, rows);
-        self.below.clear_row(row_below(order, row))
+        let order = self.order.fitted(rows);
+        self.below.clear_row(order.row(row))
     }
 
     // moves no cell: the row below that is freed becomes the last row
@@ -85,9 +85,9 @@ impl<'s, S: Screen> Screen for Turning<'s, S> {
         if row >= rows {
             return Err(Refusal::OffScreen);
         }
-        let order = fitting(self.order, rows);
-        let freed = row_below(order, row);
-        self.order = turned_up(order, row);
+        let order = self.order.fitted(rows);
+        let freed = order.row(row);
+        self.order = order.turned_up(row);
         self.below.clear_row(freed)
     }
 
@@ -102,9 +102,9 @@ impl<'s, S: Screen> Screen for Turning<'s, S> {
         if row >= rows {
             return Err(Refusal::OffScreen);
         }
-        let order = fitting(self.order, rows);
-        let freed = row_below(order, rows - 1);
-        self.order = turned_down(order, row);
+        let order = self.order.fitted(rows);
+        let freed = order.row(rows - 1);
+        self.order = order.turned_down(row);
         self.below.clear_row(freed)
     }
 }
