@@ -9,7 +9,8 @@ use crate::order::Order;
 use screen::interface::Screen;
 use screen::refusal::Refusal;
 
-// A screen that keeps an order of rows over the screen below.
+// A screen that keeps an order of rows over the screen below. Its invariant stands here and not in the order: the
+// borrow checker covers no type argument that holds a `&mut` beside a struct with ghost fields, as in a stack of layers.
 #[derive(Drop)]
 pub struct Turning<'s, S> {
     below: &'s mut S,
