@@ -1,13 +1,14 @@
 // Carries out edits.
-use crate::cell::cell_count;
+ghost use Rattle.std.specs.Prelude.{◌≡◌};
+ghost use Rattle.edit.specs.View.{view, at};
+ghost use Rattle.edit.specs.Moves.{addressed};
+
+use crate::cell::{cell_count, on_screen};
 use crate::edits::{Change, Edit};
 use crate::view::View;
 use screen::interface::Screen;
 
 impl<'s, S: Screen> View<'s, S> {
-    ghost use Rattle.std.specs.Prelude.{◌≡◌};
-    ghost use Rattle.edit.specs.View.{view};
-    ghost use Rattle.edit.specs.Moves.{addressed};
     ghost use Rattle.edit.specs.Edits.{redrawn, edited};
     ghost use Rattle.edit.specs.Shown.{shown, beside};
 
@@ -54,4 +55,12 @@ impl<'s, S: Screen> View<'s, S> {
             self.cursor = place;
         }
     }
+}
+
+// Where an address takes the cursor of a screen that is only read.
+pub fn move_to<S: Screen>(screen: &S, cursor: usize, row: u8, column: u8) -> usize
+    ensures { view (S.grid screen.now) result ≡ addressed row column (at (S.grid screen.now) cursor) }
+{
+    let place = on_screen(screen, cursor);
+    screen.place(row as usize, column as usize).unwrap_or(place)
 }

@@ -1,7 +1,7 @@
 // What steps of a host text and keys do to the cells of a screen and its cursor.
 #![tactic(auto)]
 
-mod apply;
+pub mod apply;
 pub mod cell;
 pub mod edits;
 pub mod laws;

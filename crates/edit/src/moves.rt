@@ -17,18 +17,18 @@ pub(crate) fn round(place: usize, count: usize) -> usize
 }
 
 impl<'s, S: Screen> View<'s, S> {
+    ghost use Rattle.std.specs.Prelude.{nat_lt, IfSome, if◌then◌else◌, Some, None};
+    ghost use Rattle.edit.specs.View.{size};
     ghost use Rattle.edit.specs.Moves.{moved, stop_from};
     ghost use Rattle.edit.specs.Shown.{shown};
 
-    // The first tab stop at or after the cursor, or else the number of cells.
-    fn next_stop(&self) -> usize
-        ensures { result ≡ stop_from (shown self.now) }
+    // The first tab stop at or after the cursor.
+    fn next_stop(&self) -> Option<usize>
+        ensures stop { result ≡ (if nat_lt (stop_from (shown self.now)) (size (shown self.now).grid) then Some (stop_from (shown self.now)) else None) }
+        ensures on { IfSome result (λ place. place < size (shown self.now).grid) }
     {
         let screen = &*self.screen;
-        let end = cell_count(screen);
-        (self.cursor..end)
-            .find(|place| cell_at(screen, *place).0 == HT)
-            .unwrap_or(end)
+        (self.cursor..cell_count(screen)).find(|place| cell_at(screen, *place).0 == HT)
     }
 
     // Where a move takes the cursor.
@@ -45,10 +45,10 @@ impl<'s, S: Screen> View<'s, S> {
             Motion::Left => round(cursor + (end - 1), end),
             Motion::Right => round(cursor + 1, end),
             Motion::Return => round(cursor - cursor % columns + columns, end),
-            Motion::Tab => {
-                let stop = self.next_stop();
-                if stop < end { round(stop + 1, end) } else { 0 }
-            }
+            Motion::Tab => match self.next_stop() {
+                Some(stop) => round(stop + 1, end),
+                None => 0,
+            },
         }
     }
 }

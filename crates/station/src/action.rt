@@ -17,8 +17,8 @@ pub const GENERAL: u8 = 0x50;
 
 #[derive(Clone, Copy, PartialEq, Eq, Debug)]
 pub enum MessageAction<'a> {
-    // answers a poll, one that acknowledges or not
-    Poll(bool),
+    // answers a poll
+    Poll { acknowledges: bool },
     // sends this reply again
     Repeat(Outstanding),
     // carries out a text
@@ -46,8 +46,10 @@ impl<'a> MessageAction<'a> {
         ensures { action_of result ≡ form_action (the_form form.entry) outstanding }
     {
         match form {
-            Form::Poll => Ok(MessageAction::Poll(false)),
-            Form::PollAcknowledge => Ok(MessageAction::Poll(true)),
+            Form::Poll => Ok(MessageAction::Poll {
+                acknowledges: false,
+            }),
+            Form::PollAcknowledge => Ok(MessageAction::Poll { acknowledges: true }),
             Form::Repeat => {
                 let reply = outstanding.ok_or(MessageFault::NothingToRepeat)?;
                 Ok(MessageAction::Repeat(reply))

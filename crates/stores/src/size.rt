@@ -31,8 +31,9 @@ impl Size {
     pub fn in_area(area: &[u16], rows: usize, columns: usize) -> Result<Size, Refusal>
         ensures { MatchResult result (λ s. (s.rows ≡ rows) × (s.columns ≡ columns) × (s.rows * s.columns ≤ length area.now)) (λ e. (has_room rows columns (length area.now) ≡ false) × (e ≡ WrongSize)) }
     {
-        if is_allowed(rows, columns) && rows * columns <= area.len() {
-            Ok(Size { rows, columns })
+        let size = Size::new(rows, columns)?;
+        if rows * columns <= area.len() {
+            Ok(size)
         } else {
             Err(Refusal::WrongSize)
         }

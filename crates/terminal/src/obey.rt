@@ -90,7 +90,7 @@ impl<'a, L: Line> Sender<'a, L> {
         ensures after { station_of (S.grid screen.new) console.new ≡ (obeyed L.Line.kind self.now.identity message.now (station_of (S.grid screen.old) console.old)).after }
     {
         match MessageAction::decide(self.identity, console.outstanding, message) {
-            Ok(MessageAction::Poll(acknowledges)) => {
+            Ok(MessageAction::Poll { acknowledges }) => {
                 Ok(self.answer_poll(area, console, acknowledges)?)
             }
             Ok(MessageAction::Repeat(reply)) => {

@@ -12,20 +12,14 @@ impl Kind {
     pub(crate) fn sends(self, found: (u8, bool)) -> bool
         ensures { result ≡ is_sent self (cell found.0 found.1) }
     {
-        match self {
-            Kind::Open => !found.1,
-            Kind::Display => true,
-        }
+        self == Kind::Display || !found.1
     }
 
     // Whether a code is sent with ESC before it: a tab stop where all cells are sent.
     fn escapes(self, code: u8) -> bool
         ensures { result ≡ is_escaped self code }
     {
-        match self {
-            Kind::Open => false,
-            Kind::Display => code == HT,
-        }
+        self == Kind::Display && code == HT
     }
 }
 
