@@ -1,6 +1,12 @@
-// What a line of a script asks of a screen.
+// The lines of a script, by their first words.
+use script::error::{Problem, RunError};
+use script::words::Words;
+use std::io::Read;
+
+// A new screen, or what is asked of one.
 #[derive(Clone, Copy)]
 pub enum Line {
+    Screen,
     Text,
     Read,
     Write,
@@ -13,9 +19,10 @@ pub enum Line {
 }
 
 impl Line {
-    // The line that begins with this word.
-    pub fn named(word: &[u8]) -> Option<Line> {
-        Some(match word {
+    // The line that begins with the last word.
+    pub fn begun<R: Read>(words: &Words<R>) -> Result<Line, RunError> {
+        Ok(match words.word().bytes() {
+            b"screen" => Line::Screen,
             b"text" => Line::Text,
             b"read" => Line::Read,
             b"write" => Line::Write,
@@ -25,7 +32,7 @@ impl Line {
             b"below" => Line::Below,
             b"pagewrite" => Line::PageWrite,
             b"pageread" => Line::PageRead,
-            _ => return None,
+            _ => return Err(words.error(Problem::UnknownLine)),
         })
     }
 }

@@ -9,62 +9,67 @@ use script::words::Words;
 use stack::lowest::Stacked;
 use std::io;
 use std::io::{Read, Write};
+use std::ops::ControlFlow;
 
 // A screen, and what stands beside it.
 #[derive(Drop)]
-pub struct OnScreen<'s, S> {
+pub struct OnScreen<'s, S, W> {
     pub screen: &'s mut S,
     pub state: State,
+    pub session: &'s mut Session<W>,
 }
 
-impl<'s, S: Stacked> OnScreen<'s, S> {
-    // One line, from its first word on.
-    pub fn line<R: Read, W: Write>(
-        &mut self,
-        session: &mut Session<R, W>,
-        line: Line,
-    ) -> Result<(), RunError> {
-        match line {
-            Line::Text => self.text(session),
-            Line::Read => self.read(session),
-            Line::Write => self.write(session),
-            Line::Remove => {
-                let row = session.last_number("remove")?;
-                Ok(session.done(self.screen.remove_row(row))?)
-            }
-            Line::Insert => {
-                let row = session.last_number("insert")?;
-                Ok(session.done(self.screen.insert_row(row))?)
-            }
-            Line::Show => self.show(session),
-            Line::Below => self.below(session),
-            Line::PageWrite => self.write_page(session),
-            Line::PageRead => self.read_page(session),
-        }
-    }
-
-    fn text<R: Read, W: Write>(&mut self, session: &mut Session<R, W>) -> Result<(), RunError> {
-        let characters = session.octets()?;
-        let taken_up = carry_out(self.screen, &mut self.state, characters.as_slice());
-        let taken = taken_up as u8;
-        writeln!(session.out, "text ok {taken}")?;
+impl<'s, S: Stacked, W: Write> OnScreen<'s, S, W> {
+    // The lines up to the next screen's.
+    pub fn lines<R: Read>(&mut self, words: &mut Words<R>) -> Result<(), RunError> {
+        words.lines(|words| self.line(words))?;
         Ok(())
     }
 
-    fn read<R: Read, W: Write>(&self, session: &mut Session<R, W>) -> Result<(), RunError> {
-        let place = session.last_number("read")?;
+    // One line, from its first word on; it breaks at the next screen's.
+    fn line<R: Read>(&mut self, words: &mut Words<R>) -> Result<ControlFlow<()>, RunError> {
+        match Line::begun(words)? {
+            Line::Screen => return Ok(ControlFlow::Break(())),
+            Line::Text => self.text(words)?,
+            Line::Read => self.read(words)?,
+            Line::Write => self.write(words)?,
+            Line::Remove => {
+                let row = self.session.last_number(words, "remove")?;
+                self.session.done(self.screen.remove_row(row))?;
+            }
+            Line::Insert => {
+                let row = self.session.last_number(words, "insert")?;
+                self.session.done(self.screen.insert_row(row))?;
+            }
+            Line::Show => self.show(words)?,
+            Line::Below => self.below(words)?,
+            Line::PageWrite => self.write_page(words)?,
+            Line::PageRead => self.read_page(words)?,
+        }
+        Ok(ControlFlow::Continue(()))
+    }
+
+    fn text<R: Read>(&mut self, words: &mut Words<R>) -> Result<(), RunError> {
+        let characters = self.session.octets(words)?;
+        let taken_up = carry_out(self.screen, &mut self.state, characters.as_slice());
+        let taken = taken_up as u8;
+        writeln!(self.session.out, "text ok {taken}")?;
+        Ok(())
+    }
+
+    fn read<R: Read>(&mut self, words: &mut Words<R>) -> Result<(), RunError> {
+        let place = self.session.last_number(words, "read")?;
         match self.screen.read(place) {
             Ok((code, protected)) => {
                 let mark = protected as u8;
-                writeln!(session.out, " ok {code:02X} {mark}")?;
+                writeln!(self.session.out, " ok {code:02X} {mark}")?;
             }
-            Err(refusal) => session.refused(&refusal)?,
+            Err(refusal) => self.session.refused(&refusal)?,
         }
         Ok(())
     }
 
-    fn write<R: Read, W: Write>(&mut self, session: &mut Session<R, W>) -> Result<(), RunError> {
-        let words = &mut session.words;
+    fn write<R: Read>(&mut self, words: &mut Words<R>) -> Result<(), RunError> {
         let place = words.next_number()?;
         let place_word = *words.word();
         let Some(code) = words.next_octet()? else {
@@ -74,42 +79,43 @@ impl<'s, S: Stacked> OnScreen<'s, S> {
         let protected = mark(words)?;
         let bit = protected as u8;
         words.end_line()?;
-        write!(session.out, "write {place_word} {code_word} {bit}")?;
-        session.done(self.screen.write(place, code, protected))?;
+        write!(self.session.out, "write {place_word} {code_word} {bit}")?;
+        self.session
+            .done(self.screen.write(place, code, protected))?;
         Ok(())
     }
 
-    fn show<R: Read, W: Write>(&self, session: &mut Session<R, W>) -> Result<(), RunError> {
-        session.words.end_line()?;
-        session.out.write_all(b"show\n")?;
-        plain::rows(&mut session.out, self.screen)?;
+    fn show<R: Read>(&mut self, words: &mut Words<R>) -> Result<(), RunError> {
+        words.end_line()?;
+        self.session.out.write_all(b"show\n")?;
+        plain::rows(&mut self.session.out, self.screen)?;
         let cursor = self.state.cursor;
         let lock = self.state.locked as u8;
         let light = self.state.light as u8;
         write!(
-            session.out,
+            self.session.out,
             "cursor {cursor}\nlock {lock}\nlight {light}\nheld "
         )?;
-        self.held(session)?;
-        session.out.write_all(b"end\n")?;
+        self.held()?;
+        self.session.out.write_all(b"end\n")?;
         Ok(())
     }
 
     // The held text, if there is one.
-    fn held<R: Read, W: Write>(&self, session: &mut Session<R, W>) -> io::Result<()> {
+    fn held(&mut self) -> io::Result<()> {
         let Some(text) = self.state.held() else {
-            return session.out.write_all(b"-\n");
+            return self.session.out.write_all(b"-\n");
         };
         let length = text.len();
-        write!(session.out, "{length}")?;
-        session.octets_end(text)
+        write!(self.session.out, "{length}")?;
+        self.session.octets_end(text)
     }
 
-    fn below<R: Read, W: Write>(&self, session: &mut Session<R, W>) -> Result<(), RunError> {
-        session.words.end_line()?;
-        session.out.write_all(b"below\n")?;
-        plain::rows(&mut session.out, self.screen.lowest())?;
-        session.out.write_all(b"end\n")?;
+    fn below<R: Read>(&mut self, words: &mut Words<R>) -> Result<(), RunError> {
+        words.end_line()?;
+        self.session.out.write_all(b"below\n")?;
+        plain::rows(&mut self.session.out, self.screen.lowest())?;
+        self.session.out.write_all(b"end\n")?;
         Ok(())
     }
 }
