@@ -1,4 +1,4 @@
-// What an accepted key or octet is answered with.
+// What an accepted key or octet is answered with: each part told by itself, as each is counted by itself.
 ghost use Rattle.std.specs.Prelude.{◌≡◌, false, Some, None};
 
 #[derive(Clone, Copy, PartialEq, Eq, Debug)]

@@ -18,10 +18,8 @@ pub(crate) fn first_number(octets: &[u8]) -> Result<(usize, usize), Refusal>
     ensures { MatchResult result (λ p. (first_number octets.now ≡ Ok (read p.0 (drop p.1 octets.now))) × (p.1 ≤ length octets.now)) (λ e. first_number octets.now ≡ Err e) }
 {
     match octets {
-        [low, ..] if *low < 0x80 => Ok((*low as usize, 1)),
-        [low, high, ..] if 0 < *high && *high < 0x80 => {
-            Ok((*low as usize - 0x80 + 0x80 * *high as usize, 2))
-        }
+        [low @ 0..=0x7f, ..] => Ok((*low as usize, 1)),
+        [low, high @ 1..=0x7f, ..] => { Ok((*low as usize - 0x80 + 0x80 * *high as usize, 2)) }
         [_, _, ..] => Err(Refusal::WrongNumber),
         _ => Err(Refusal::CutShort),
     }

@@ -57,7 +57,7 @@ impl<'a, S: Screen> Page<'a, S> {
         self.screen.rows() * self.screen.columns()
     }
 
-    // How many octets it has.
+    // How many octets it has: two loops as below, since with `sum` its bound stayed open.
     fn length(&self) -> usize
         ensures { result ≡ length (octets_at (S.grid self.now.screen.now) self.now.cursor) }
     {

@@ -48,7 +48,8 @@ pub fn fill<S: Screen>(screen: &mut S, seed: u32) -> usize {
 
 // Makes every cell an open space.
 pub fn clear<S: Screen>(screen: &mut S) {
-    for row in 0..screen.rows() {
+    // rows of the largest screen: one that has fewer refuses the rest
+    for row in 0..24 {
         let _ = screen.clear_row(row);
     }
 }

@@ -5,36 +5,25 @@ use host::carry::carry_out;
 use host::state::State;
 use picture::{fields, frame};
 use screen::interface::Screen;
+use std::error::Error;
+use std::io;
 use std::io::Write;
-use std::{fmt, io};
 use stores::map_store::MapStore;
 use stores::size::Size;
+use thiserror::Error;
 
 // A message keeps 6,000 characters: three addresses, STX, the text and ETX.
 const LONGEST: usize = 5995;
 
 // Why a file is no host text.
-#[derive(Clone, Copy, PartialEq, Eq, Debug)]
+#[derive(Clone, Copy, PartialEq, Eq, Debug, Error)]
 pub enum Unfit {
     // an octet that no text on a line has
+    #[error("the octet {code:02X} at offset {offset} stands in no host text")]
     Octet { code: u8, offset: usize },
     // so many characters, fill left out
+    #[error("{0} characters are too many: a message brings a text of at most 5995")]
     TooLong(usize),
-}
-
-impl fmt::Display for Unfit {
-    fn fmt<W: fmt::Write>(&self, f: &mut fmt::Formatter<W>) -> fmt::Result {
-        match self {
-            Unfit::Octet { code, offset } => write!(
-                f,
-                "the octet {code:02X} at offset {offset} stands in no host text"
-            ),
-            Unfit::TooLong(count) => write!(
-                f,
-                "{count} characters are too many: a message brings a text of at most {LONGEST}"
-            ),
-        }
-    }
 }
 
 fn is_foreign(code: u8) -> bool {

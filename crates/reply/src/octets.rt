@@ -28,7 +28,7 @@ pub(crate) fn send<L: Line>(line: &L, area: &mut [u8], place: usize, characters:
     end
 }
 
-// Writes the characters' octets over as many.
+// Writes the characters' octets over as many. They are copied first: nothing is known of what a zip with the part leaves.
 fn encode<L: Line>(line: &L, part: &mut [u8], characters: &[u8])
     requires { length part.old ≡ length characters.now }
     ensures { part.new ≡ octets L.Line.kind characters.now }

@@ -11,30 +11,28 @@ fn move_two<S: Screen>(screen: &mut S) {
     let _ = screen.insert_row(0);
 }
 
-fn move_two_turned<S: Screen>(screen: &mut S) {
-    let mut top = Turning::new(screen);
-    move_two(&mut top);
-}
-
-fn calls<S: Screen>(screen: &mut S, columns: usize, turning: bool) -> Result<u64, Refusal> {
+// How many calls the moves make of a window of so many columns.
+fn calls<S: Screen, M: FnMut(&mut Counted<Window<S>>)>(
+    screen: &mut S,
+    columns: usize,
+    mut moves: M,
+) -> Result<u64, Refusal>
+    requires { M.IsAlwaysCallable moves }
+{
     let rows = screen.rows();
     let extent = Extent::within(screen, rows, columns)?;
     let mut window = Window::new(screen, extent);
     let mut counted = Counted::new(&mut window);
-    if turning {
-        move_two_turned(&mut counted);
-    } else {
-        move_two(&mut counted);
-    }
+    moves(&mut counted);
     Ok(counted.calls)
 }
 
 // By the turning layer.
 pub fn turning_calls<S: Screen>(screen: &mut S, columns: usize) -> Result<u64, Refusal> {
-    calls(screen, columns, true)
+    calls(screen, columns, |top| move_two(&mut Turning::new(top)))
 }
 
 // Cell by cell.
 pub fn copying_calls<S: Screen>(screen: &mut S, columns: usize) -> Result<u64, Refusal> {
-    calls(screen, columns, false)
+    calls(screen, columns, |top| move_two(top))
 }

@@ -82,5 +82,5 @@ pub fn same_cells<A: Screen, B: Screen>(a: &A, b: &B) -> bool {
     let columns = a.columns();
     rows == b.rows()
         && columns == b.columns()
-        && (0..rows * columns).all(|place| a.read(place) == b.read(place))
+        && (0..rows * columns).all(|place| a.read(place).is_ok() && a.read(place) == b.read(place))
 }

@@ -48,6 +48,10 @@ impl<R: Read> Input<R> {
             self.at = 0;
             self.end = 0;
             self.end = self.reader.read(&mut self.buffer)?;
+            if self.end == 0 {
+                // the end: the reader is not asked again
+                self.reader.set_limit(0);
+            }
         }
         match self.buffer[self.at..self.end].first() {
             Some(octet) if fits(*octet) => {

@@ -16,7 +16,8 @@ use std::io;
 use std::io::Read;
 use std::ops::ControlFlow;
 
-// What comes next. Blank lines have an end too; the last line may want its LF.
+// What comes next. Blank lines have an end too; the last line may want its LF. The word itself stands in `Words`, where
+// errors read it too.
 #[derive(Clone, Copy, PartialEq, Eq, Debug)]
 pub enum Token {
     Word,
@@ -31,7 +32,7 @@ pub struct Words<R> {
     // the last token's line, and the next octet's
     line: u64,
     next_line: u64,
-    // whether the last word comes again
+    // whether the last word, which stands there either way, comes again
     again: bool,
 }
 

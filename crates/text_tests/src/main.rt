@@ -83,6 +83,7 @@ fn run_texts<S: Screen>(
     Ok(())
 }
 
+// The number in a word; 0, which no screen has, where there is none.
 fn number(word: Option<&str>) -> usize {
     word.and_then(|digits| digits.parse::<usize>().ok())
         .unwrap_or(0)

@@ -12,7 +12,8 @@ use codes::{CR, ESC, RS, SI, SPACE, VT};
 use edit::cell::{cell_at, on_screen};
 use screen::interface::Screen;
 
-// The nearest start of entry at or before the cursor, or place 0.
+// The nearest start of entry at or before the cursor, or place 0: a `for`, since with `find` over the places from the
+// cursor back it stayed open that none lies between.
 #[tactic(auto, using(crate::proofs::Parts::start_at_back, crate::proofs::Parts::start_at_here))]
 fn start_at<S: Screen>(screen: &S, cursor: usize) -> usize
     ensures place { result ≡ start_at (S.grid screen.now).cells cursor }

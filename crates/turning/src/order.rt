@@ -2,7 +2,7 @@
 ghost use Rattle.std.specs.Prelude.{◌≡◌, ℕ, ◌<◌, ◌≤◌, slice_index};
 ghost use Rattle.turning.specs.Order.{Permutes, Moved, up, down, natural, fitted};
 
-// An order of the first `rows` rows: the row below of each row.
+// An order of the first `rows` rows: the row below of each row. An array and a number, since an order is copied.
 #[derive(Clone, Copy)]
 pub struct Order {
     pub(crate) at: [u8; 24],
