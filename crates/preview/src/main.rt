@@ -45,10 +45,7 @@ fn screen_size(named: Option<String>) -> Option<Size> {
 // Shows the form in a file.
 fn show(rt: &HostRuntime, file: String, named: Option<String>) -> Result<(), Failure> {
     let size = screen_size(named).ok_or(Failure::NoSize)?;
-    let text = match fs::read(rt, file.as_str()) {
-        Ok(text) => text,
-        Err(e) => return Err(Failure::File(file, e)),
-    };
+    let text = fs::read(rt, file.as_str()).map_err(|e| Failure::File(file, e))?;
     let mut out = BufWriter::new(rt.alloc(), rt.stdout())?;
     let form = Form::new(text.as_slice())?;
     let shown = form.show(&mut out, size);

@@ -16,9 +16,9 @@ pub fn stack<R: Read>(words: &mut Words<R>) -> Result<Stack, RunError> {
 pub fn stack_here<R: Read>(words: &mut Words<R>) -> Result<Stack, RunError> {
     let mut layers = ArrayVec::new();
     while let Some(layer) = layer(words)? {
-        if layers.try_push(layer).is_err() {
-            return Err(words.error(Problem::TooManyLayers));
-        }
+        layers
+            .try_push(layer)
+            .map_err(|_| words.error(Problem::TooManyLayers))?;
         words.next()?;
     }
     let store = store(words)?;
