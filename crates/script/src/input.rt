@@ -38,21 +38,25 @@ impl<R: Read> Input<R> {
         }
     }
 
+    // Reads on where all octets are taken. At an end the reader is asked again by the next call: at a terminal more may come.
+    fn fill(&mut self) -> io::Result<()>
+        ensures { self.new ≤ self.old }
+    {
+        if self.at == self.end {
+            self.at = 0;
+            self.end = 0;
+            self.end = self.reader.read(&mut self.buffer)?;
+        }
+        Ok(())
+    }
+
     // Takes the next octet, if there is one and it fits.
     pub fn next_if<F: FnOnce(u8) -> bool>(&mut self, fits: F) -> io::Result<Option<u8>>
         requires { F.IsAlwaysCallable fits }
         ensures fewer { IfOk result (λ next. OnSome next (self.new < self.old)) }
         ensures kept { self.new ≤ self.old }
     {
-        if self.at == self.end {
-            self.at = 0;
-            self.end = 0;
-            self.end = self.reader.read(&mut self.buffer)?;
-            if self.end == 0 {
-                // the end: the reader is not asked again
-                self.reader.set_limit(0);
-            }
-        }
+        self.fill()?;
         match self.buffer[self.at..self.end].first() {
             Some(octet) if fits(*octet) => {
                 let octet = *octet;
@@ -63,12 +67,17 @@ impl<R: Read> Input<R> {
         }
     }
 
-    // Passes over the octets that fit.
-    pub fn skip_while<F: Fn(u8) -> bool>(&mut self, fits: F) -> io::Result<()>
+    // Takes the octets that fit, and the one behind them, which it answers, or none at an end.
+    pub fn next_behind<F: Fn(u8) -> bool>(&mut self, fits: F) -> io::Result<Option<u8>>
         requires { F.IsAlwaysCallable fits }
-        ensures { self.new ≤ self.old }
+        ensures fewer { IfOk result (λ next. OnSome next (self.new < self.old)) }
+        ensures kept { self.new ≤ self.old }
     {
-        while self.next_if(|octet| fits(octet))?.is_some() {}
-        Ok(())
+        while let Some(octet) = self.next_if(|_| true)? {
+            if !fits(octet) {
+                return Ok(Some(octet));
+            }
+        }
+        Ok(None)
     }
 }

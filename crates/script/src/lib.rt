@@ -5,5 +5,7 @@ pub mod error;
 pub mod hex;
 mod input;
 pub mod number;
+#[cfg(test)]
+mod tests;
 pub mod word;
 pub mod words;

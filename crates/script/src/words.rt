@@ -1,9 +1,9 @@
 // The words of a script, from any reader in one pass, with a fixed amount of memory.
-ghost use Rattle.std.specs.Prelude.{◌≡◌, ◌≢◌, ◌+◌, ◌<◌, ◌≤◌, ◌↔◌, false, IsTrue, Some, IfOk, IfSome, OnOk, OnSome};
+ghost use Rattle.std.specs.Prelude.{◌≡◌, ◌≢◌, ◌+◌, ◌<◌, ◌≤◌, ◌↔◌, false, IsTrue, if◌then◌else◌, Some, IfOk, IfSome, OnOk, OnSome};
 ghost use Rattle.std.specs.Iterator.{at_most};
 ghost use Rattle.script.specs.Hex.{octet_in};
 ghost use Rattle.script.specs.Number.{number_in, size_in};
-ghost use Rattle.script.specs.Words.{text_of, left, octets_left, YieldsOctet};
+ghost use Rattle.script.specs.Words.{text_of, left, octets_left, line_after, YieldsOctet};
 ghost use Rattle.script.specs.declared.words.Token.TheVariants.{End};
 ghost use Rattle.std.specs.declared.ops.ControlFlow.TheVariants.{Break};
 
@@ -34,6 +34,8 @@ pub struct Words<R> {
     next_line: u64,
     // whether the last word, which stands there either way, comes again
     again: bool,
+    // whether the end, at which `lines` stopped, comes again
+    ended: bool,
 }
 
 fn is_blank(octet: u8) -> bool {
@@ -44,15 +46,15 @@ fn ends_word(octet: u8) -> bool {
     is_blank(octet) || matches!(octet, b'\n' | b'#')
 }
 
-// Skips blanks and a comment, up to a word, an LF or the end.
-fn skip<R: Read>(input: &mut Input<R>) -> io::Result<()>
-    ensures { input.new ≤ input.old }
+// Skips blanks and a comment, and takes what begins a word or the LF behind them.
+fn skip<R: Read>(input: &mut Input<R>) -> io::Result<Option<u8>>
+    ensures fewer { IfOk result (λ next. OnSome next (input.new < input.old)) }
+    ensures kept { input.new ≤ input.old }
 {
-    input.skip_while(|octet| is_blank(octet))?;
-    if input.next_if(|octet| octet == b'#')?.is_some() {
-        input.skip_while(|octet| octet != b'\n')?;
+    match input.next_behind(|octet| is_blank(octet))? {
+        Some(b'#') => input.next_behind(|octet| octet != b'\n'),
+        next => Ok(next),
     }
-    Ok(())
 }
 
 // Takes the rest of a word.
@@ -67,7 +69,8 @@ fn take_word<R: Read>(input: &mut Input<R>, word: &mut Word) -> io::Result<()>
 
 impl<R: Read> Words<R> {
     pub fn new(reader: R) -> Words<R>
-        ensures { result.line ≡ 1 }
+        ensures line { result.line ≡ 1 }
+        ensures next { result.next_line ≡ 1 }
     {
         Words {
             input: Input::new(reader),
@@ -75,6 +78,7 @@ impl<R: Read> Words<R> {
             line: 1,
             next_line: 1,
             again: false,
+            ended: false,
         }
     }
 
@@ -108,6 +112,8 @@ impl<R: Read> Words<R> {
         ensures fewer { IfOk result (λ token. token ≢ End → left self.new < left self.old) }
         ensures kept { left self.new ≤ left self.old }
         ensures taken { OnOk result (self.new.again ≡ false) }
+        ensures line { self.new.line ≡ (if self.old.again then self.old.line else self.old.next_line) }
+        ensures next { IfOk result (λ token. self.new.next_line ≡ (if self.old.again then self.old.next_line else line_after token self.new.line)) }
     {
         if self.again {
             self.again = false;
@@ -115,8 +121,11 @@ impl<R: Read> Words<R> {
         }
         self.line = self.next_line;
         self.word = Word::new();
-        skip(&mut self.input)?;
-        match self.input.next_if(|_| true)? {
+        if self.ended {
+            self.ended = false;
+            return Ok(Token::End);
+        }
+        match skip(&mut self.input)? {
             None => Ok(Token::End),
             Some(b'\n') => {
                 self.next_line = self.line.saturating_add(1);
@@ -181,7 +190,8 @@ impl<R: Read> Words<R> {
         Octets { words: Some(self) }
     }
 
-    // Runs `line` at the first word of each line, to the end or to a line at which it breaks, whose first word then comes again.
+    // Runs `line` at the first word of each line, to the end, or to a line at which it breaks.
+    // That line's first word then comes again, and so does the end, so that a run of lines within another asks no reader again.
     pub fn lines<F: FnMut(&mut Words<R>) -> Result<ControlFlow<()>, RunError>>(
         &mut self,
         mut line: F,
@@ -199,7 +209,10 @@ impl<R: Read> Words<R> {
                     }
                 }
                 Token::LineEnd => {}
-                Token::End => return Ok(ControlFlow::Continue(())),
+                Token::End => {
+                    self.ended = true;
+                    return Ok(ControlFlow::Continue(()));
+                }
             }
         }
         Err(RunError::Io(io::Error::from(io::ErrorKind::TimedOut)))

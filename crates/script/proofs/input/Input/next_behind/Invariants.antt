@@ -1,5 +1,5 @@
 use Rattle.std.proofs.Common.{◌≤◌}
-use Rattle.script.proofs.input.Input.skip_while.Given as goal
+use Rattle.script.proofs.input.Input.next_behind.Given as goal
 
 abbrev pub invariant-loop-fits : goal.invariant-loop-fits
 invariant-loop-fits g l = l.self ≤ l.fn.self
