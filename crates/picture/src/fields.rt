@@ -10,11 +10,6 @@ fn is_visible<S: Screen>(screen: &S, place: usize) -> bool {
     cell_at(screen, place).0 > SPACE
 }
 
-// Whether a field begins at a place: an open cell that no open cell stands before.
-fn begins<S: Screen>(screen: &S, place: usize) -> bool {
-    is_open(screen, place) && (place == 0 || !is_open(screen, place - 1))
-}
-
 // The places of the field that begins at one.
 fn field<S: Screen>(screen: &S, start: usize) -> Range<usize> {
     let count = cell_count(screen);
@@ -61,13 +56,18 @@ fn entry<S: Screen, W: Write>(
     out.write_all(b"\n")
 }
 
-// The table of the fields.
+// The table of the fields. The search goes on behind each field, so that each cell is looked at once.
 pub fn table<S: Screen, W: Write>(out: &mut W, screen: &S) -> io::Result<()> {
     out.write_all(b"field  row  column  length  caption\n")?;
-    let count = cell_count(screen);
-    let starts = (0..count).filter(|place| begins(screen, *place));
-    for (number, start) in (1..=count).zip(starts) {
-        entry(out, screen, number, field(screen, start))?;
+    let mut number = 0usize;
+    let mut end = 0;
+    for place in 0..cell_count(screen) {
+        if place >= end && is_open(screen, place) {
+            let field = field(screen, place);
+            end = field.end;
+            number = number.saturating_add(1);
+            entry(out, screen, number, field)?;
+        }
     }
     Ok(())
 }

@@ -1,8 +1,6 @@
 // Each row by its number, with its characters and a map of its protection.
-use crate::places::row_places;
+use crate::cells::Cells;
 use codes::{FS, GS, HT, RS};
-use edit::cell::cell_at;
-use screen::interface::Screen;
 use std::io;
 use std::io::Write;
 
@@ -19,15 +17,17 @@ fn character<W: Write>(out: &mut W, code: u8) -> io::Result<()> {
 }
 
 // All rows, each with its map after it.
-pub fn rows<S: Screen, W: Write>(out: &mut W, screen: &S) -> io::Result<()> {
-    for row in 0..screen.rows() {
+pub fn rows<C: Cells, W: Write>(out: &mut W, cells: &C) -> io::Result<()> {
+    let columns = cells.width();
+    for row in 0..cells.height() {
+        let first = row.saturating_mul(columns);
         write!(out, "row {row} |")?;
-        for place in row_places(screen, row) {
-            character(out, cell_at(screen, place).0)?;
+        for column in 0..columns {
+            character(out, cells.cell(first.saturating_add(column)).0)?;
         }
         write!(out, "|\nmap {row} |")?;
-        for place in row_places(screen, row) {
-            let protected = cell_at(screen, place).1;
+        for column in 0..columns {
+            let protected = cells.cell(first.saturating_add(column)).1;
             out.write_all(if protected { b"#" } else { b"." })?;
         }
         out.write_all(b"|\n")?;

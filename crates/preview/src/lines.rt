@@ -3,6 +3,7 @@ use crate::line::Line;
 use crate::session::Session;
 use host::carry::carry_out;
 use host::state::State;
+use picture::cells::Shown;
 use picture::plain;
 use script::error::{Problem, RunError};
 use script::words::Words;
@@ -88,7 +89,7 @@ impl<'s, S: Stacked, W: Write> OnScreen<'s, S, W> {
     fn show<R: Read>(&mut self, words: &mut Words<R>) -> Result<(), RunError> {
         words.end_line()?;
         self.session.out.write_all(b"show\n")?;
-        plain::rows(&mut self.session.out, self.screen)?;
+        plain::rows(&mut self.session.out, &Shown(self.screen))?;
         let cursor = self.state.cursor;
         let lock = self.state.locked as u8;
         let light = self.state.light as u8;
@@ -114,7 +115,7 @@ impl<'s, S: Stacked, W: Write> OnScreen<'s, S, W> {
     fn below<R: Read>(&mut self, words: &mut Words<R>) -> Result<(), RunError> {
         words.end_line()?;
         self.session.out.write_all(b"below\n")?;
-        plain::rows(&mut self.session.out, self.screen.lowest())?;
+        plain::rows(&mut self.session.out, &Shown(self.screen.lowest()))?;
         self.session.out.write_all(b"end\n")?;
         Ok(())
     }

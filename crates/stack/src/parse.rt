@@ -1,6 +1,5 @@
 // A stack as a script names it: words RxC [N], bits RxC, turn SCREEN or window RxC SCREEN.
-use crate::choice::{Dimensions, Layer, Stack, Store};
-use arrayvec::ArrayVec;
+use crate::choice::{Dimensions, Layer, Layers, Stack, Store};
 use script::error::{Problem, RunError};
 use script::number::number;
 use script::words::{Token, Words};
@@ -14,7 +13,7 @@ pub fn stack<R: Read>(words: &mut Words<R>) -> Result<Stack, RunError> {
 
 // The stack that begins at the last word.
 pub fn stack_here<R: Read>(words: &mut Words<R>) -> Result<Stack, RunError> {
-    let mut layers = ArrayVec::new();
+    let mut layers = Layers::new();
     while let Some(layer) = layer(words)? {
         layers
             .try_push(layer)
