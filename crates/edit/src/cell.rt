@@ -31,7 +31,11 @@ pub fn cell_at<S: Screen>(screen: &S, place: usize) -> (u8, bool)
     ensures value { cell result.0 result.1 ≡ slice_index_or (S.grid screen.now).cells place blank }
     ensures stored { storable result.0 ≡ true }
 {
-    screen.read(place).unwrap_or((SPACE, false))
+    // a `match`, since with `unwrap_or` each cell is packed and unpacked
+    match screen.read(place) {
+        Ok(found) => found,
+        Err(_) => (SPACE, false),
+    }
 }
 
 // Whether the cell at a place is open.

@@ -27,8 +27,13 @@ impl<'s, S: Screen> View<'s, S> {
         ensures stop { result ≡ (if nat_lt (stop_from (shown self.now)) (size (shown self.now).grid) then Some (stop_from (shown self.now)) else None) }
         ensures on { IfSome result (λ place. place < size (shown self.now).grid) }
     {
-        let screen = &*self.screen;
-        (self.cursor..cell_count(screen)).find(|place| cell_at(screen, *place).0 == HT)
+        // a `for`, since with `find` a cell takes half as long again
+        for place in self.cursor..cell_count(self.screen) {
+            if cell_at(self.screen, place).0 == HT {
+                return Some(place);
+            }
+        }
+        None
     }
 
     // Where a move takes the cursor.

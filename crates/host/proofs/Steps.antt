@@ -63,6 +63,10 @@ pub option_or_assoc : (a b c : Option (List ℕ)) → option_or (option_or a b) 
 option_or_assoc None b c = refl
 option_or_assoc (Some t) b c = refl
 
+pub option_or_none : (a : Option (List ℕ)) → option_or a None ≡ a
+option_or_none None = refl
+option_or_none (Some t) = refl
+
 -- a place going round goes round no further
 pub at_again : (g : Grid) (p q : ℕ) → q ≡ p % size g → at g q ≡ at g p
 at_again g p q e = ap (λ k. view g (k % size g)) e ∙ ap (view g) (mod-mod p (size g))

@@ -1,13 +1,14 @@
 -- A page's numbers written one after another.
-use Rattle.std.proofs.Common.{drop, ◌≡◌, ℕ, ◌+◌, ◌<◌, ◌≤◌, List, [], ◌∷◌, ◌++◌, map, length, get_or, take, ap, sym, ◌∙◌, arith, length-append}
+use Rattle.std.proofs.Common.{drop, true, ◌≡◌, ℕ, ◌+◌, ◌<◌, ◌≤◌, List, [], ◌∷◌, ◌++◌, map, length, get_or, take, ap, sym, ◌∙◌, arith, length-append}
 use Rattle.std.specs.List.{flat_map}
+use Rattle.std.proofs.lemmas.Bool.{ltb-true}
 use Rattle.std.proofs.lemmas.List.{append_assoc, drop-drop, take_more, take_at, flat_map_more, get_or-append-add, get_or-map, get_or-take, length-map}
 use Rattle.std.proofs.lemmas.List.Edits.{sets, sets-eq}
 use Rattle.std.proofs.lemmas.List.Folds.{length-flat_map-take}
 use Rattle.area.specs.Over.{over, written_at}
 use Rattle.area.proofs.Areas.{over_written}
 use Rattle.screen.specs.Cells.{blank}
-use Rattle.screen.specs.Grid.{Grid, Sound}
+use Rattle.screen.specs.Grid.{Grid, Sound, has_place}
 use Rattle.page.specs.Numbers.{number}
 use Rattle.page.specs.Pages.{Page, cell_number, page_numbers}
 use Rattle.page.specs.Calls.{octets_at, reads, ReadsBack}
@@ -66,7 +67,7 @@ module _ (ns : List ℕ) (i n : ℕ) (l : i < length ns) (e : n ≡ get_or ns i 
         record { next = cc; octets = cc }
 
 -- what stands in front of an area reads back
-pub front_reads_back : (g : Grid) (cursor : ℕ) → Sound g → cursor < length g.cells → (a b : List ℕ) (n : ℕ) → b ≡ over (octets_at g cursor) a → n ≡ length (octets_at g cursor)
+pub front_reads_back : (g : Grid) (cursor : ℕ) → Sound g → has_place g cursor ≡ true → (a b : List ℕ) (n : ℕ) → b ≡ over (octets_at g cursor) a → n ≡ length (octets_at g cursor)
     → ReadsBack g cursor (take n b)
 front_reads_back g cursor s on a b n e f h r w =
-    ap (λ x. reads h (take n x)) e ∙ ap (reads h) (take_at (octets_at g cursor) _ n (sym f)) ∙ reads_back g cursor s on h r w
+    ap (λ x. reads h (take n x)) e ∙ ap (reads h) (take_at (octets_at g cursor) _ n (sym f)) ∙ reads_back g cursor s (ltb-true _ _ on) h r w

@@ -12,12 +12,12 @@ use Rattle.reply.specs.Steps.{begun, closed}
 use Rattle.reply.specs.Progress.{Holds, Shows}
 
 -- the check of characters in two parts
-check_append : (xs ys : List ℕ) → block_check (xs ++ ys) ≡ bit_xor (block_check xs) (block_check ys)
+pub check_append : (xs ys : List ℕ) → block_check (xs ++ ys) ≡ bit_xor (block_check xs) (block_check ys)
 check_append [] ys = sym (xor_zero_l (block_check ys))
 check_append (x ∷ xs) ys = ap (bit_xor x) (check_append xs ys) ∙ sym (xor_assoc x (block_check xs) (block_check ys))
 
 -- the octets of what was sent, and of what follows
-so_far_append : (k : Kind) (first sent cs : List ℕ) → so_far k first sent ++ octets k cs ≡ so_far k first (sent ++ cs)
+pub so_far_append : (k : Kind) (first sent cs : List ℕ) → so_far k first sent ++ octets k cs ≡ so_far k first (sent ++ cs)
 so_far_append k first sent cs = simp (append_assoc, map-append)
 
 -- characters more, and the check

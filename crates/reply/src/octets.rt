@@ -28,13 +28,13 @@ pub(crate) fn send<L: Line>(line: &L, area: &mut [u8], place: usize, characters:
     end
 }
 
-// Writes the characters' octets over as many. They are copied first: nothing is known of what a zip with the part leaves.
+// Writes the characters' octets over as many, in one pass: a loop over places, since nothing is known of what a zip with the
+// part leaves.
 fn encode<L: Line>(line: &L, part: &mut [u8], characters: &[u8])
     requires { length part.old ≡ length characters.now }
     ensures { part.new ≡ octets L.Line.kind characters.now }
 {
-    part.copy_from_slice(characters);
-    for octet in part.iter_mut() {
-        *octet = line.encode(*octet);
+    for (i, character) in characters.iter().enumerate() {
+        part[i] = line.encode(*character);
     }
 }

@@ -45,7 +45,11 @@ down_all e xs r h w l f =
     let fits = rows_apart r h w l in
     same_lists _ _ (search (rules, places)) (λ k d b. grind (arith, places))
 
--- what stands at each place
+-- the length of each, and what stands at each place
+pub length_clear_row : {A : Type 0} (e : A) (w r : ℕ) (xs : List A) → r * w + w ≤ length xs → length (clear_row e w r xs) ≡ length xs
+unfolding clear_row
+length_clear_row e w r xs h = search (rules, places)
+
 pub clear_below : {A : Type 0} (e : A) (w r : ℕ) (xs : List A) (k : ℕ) (d : A) → r * w + w ≤ length xs → k < r * w → get_or (clear_row e w r xs) k d ≡ get_or xs k d
 unfolding clear_row
 clear_below e w r xs k d h l = grind (arith, places)
@@ -57,6 +61,38 @@ clear_within e w r xs k d h l u = grind (arith, places)
 pub clear_above : {A : Type 0} (e : A) (w r : ℕ) (xs : List A) (k : ℕ) (d : A) → r * w + w ≤ length xs → r * w + w ≤ k → get_or (clear_row e w r xs) k d ≡ get_or xs k d
 unfolding clear_row
 clear_above e w r xs k d h l = grind (arith, places)
+
+pub length_remove_row : {A : Type 0} (e : A) (w r : ℕ) (xs : List A) → r * w + w ≤ length xs → length (remove_row e w r xs) ≡ length xs
+unfolding remove_row
+length_remove_row e w r xs h = search (rules, places)
+
+pub remove_below : {A : Type 0} (e : A) (w r : ℕ) (xs : List A) (k : ℕ) (d : A) → r * w + w ≤ length xs → k < r * w → get_or (remove_row e w r xs) k d ≡ get_or xs k d
+unfolding remove_row
+remove_below e w r xs k d h l = grind (arith, places)
+
+pub remove_within : {A : Type 0} (e : A) (w r : ℕ) (xs : List A) (k : ℕ) (d : A) → r * w + w ≤ length xs → r * w ≤ k → k + w < length xs → get_or (remove_row e w r xs) k d ≡ get_or xs (k + w) d
+unfolding remove_row
+remove_within e w r xs k d h l u = grind (arith, places)
+
+pub remove_last : {A : Type 0} (e : A) (w r : ℕ) (xs : List A) (k : ℕ) (d : A) → r * w + w ≤ length xs → length xs ≤ k + w → k < length xs → get_or (remove_row e w r xs) k d ≡ e
+unfolding remove_row
+remove_last e w r xs k d h l u = grind (arith, places)
+
+pub length_insert_row : {A : Type 0} (e : A) (w r : ℕ) (xs : List A) → r * w + w ≤ length xs → length (insert_row e w r xs) ≡ length xs
+unfolding insert_row
+length_insert_row e w r xs h = search (rules, places)
+
+pub insert_below : {A : Type 0} (e : A) (w r : ℕ) (xs : List A) (k : ℕ) (d : A) → r * w + w ≤ length xs → k < r * w → get_or (insert_row e w r xs) k d ≡ get_or xs k d
+unfolding insert_row
+insert_below e w r xs k d h l = grind (arith, places)
+
+pub insert_within : {A : Type 0} (e : A) (w r : ℕ) (xs : List A) (k : ℕ) (d : A) → r * w + w ≤ length xs → r * w ≤ k → k < r * w + w → get_or (insert_row e w r xs) k d ≡ e
+unfolding insert_row
+insert_within e w r xs k d h l u = grind (arith, places)
+
+pub insert_above : {A : Type 0} (e : A) (w r : ℕ) (xs : List A) (k : ℕ) (d : A) → r * w + w ≤ length xs → r * w + w ≤ k → k < length xs → get_or (insert_row e w r xs) k d ≡ get_or xs (k - w) d
+unfolding insert_row
+insert_above e w r xs k d h l u = grind (arith, places)
 
 -- a list with these elements at its places is the one
 pub is_clear_row : {A : Type 0} (e d : A) (w r : ℕ) (xs ys : List A) → r * w + w ≤ length xs → length ys ≡ length xs

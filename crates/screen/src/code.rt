@@ -8,5 +8,6 @@ use codes::{FS, GS, HT, RS};
 pub fn is_storable(code: u8) -> bool
     ensures { result ≡ storable code }
 {
-    matches!(code, 0x20..=0x7e | HT | FS | GS | RS)
+    // in two tests: a compiler sorts the cases of one by their codes, and then most characters, which are data, come last
+    matches!(code, 0x20..=0x7e) || matches!(code, HT | FS | GS | RS)
 }

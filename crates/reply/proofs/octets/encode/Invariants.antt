@@ -1,6 +1,7 @@
-use Rattle.std.proofs.Common.{◌≡◌, ◌++◌, take, drop}
+use Rattle.std.proofs.Common.{◌≡◌}
+use lib.Seq.{paste}
 use Rattle.reply.specs.Octets.{octets}
 use Rattle.reply.proofs.octets.encode.Given as goal
 
-abbrev pub invariant-loop-octet : goal.invariant-loop-octet
-invariant-loop-octet g l = l.part ≡ octets g.L.Line.kind (take l.octet-index l.initial.part) ++ drop l.octet-index l.initial.part
+abbrev pub invariant-loop-i : goal.invariant-loop-i
+invariant-loop-i g l = l.part ≡ paste l.initial.part 0 (octets g.L.Line.kind l.characters) l.i
