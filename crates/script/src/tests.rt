@@ -8,14 +8,15 @@ use std::io::Read;
 #[derive(Drop)]
 struct Pieces<'a> {
     pieces: &'a [&'a [u8]],
+    given: usize,
 }
 
 impl<'a> Read for Pieces<'a> {
     fn read(&mut self, buf: &mut [u8]) -> io::Result<usize> {
-        let Some((piece, rest)) = self.pieces.split_first() else {
+        let Some(piece) = self.pieces.get(self.given) else {
             return Ok(0);
         };
-        self.pieces = rest;
+        self.given += 1;
         let mut piece = *piece;
         piece.read(buf)
     }
@@ -25,7 +26,10 @@ impl<'a> Read for Pieces<'a> {
 #[test]
 fn an_end_ends_no_script(rt: HostRuntime) -> Result<(), RunError> {
     let pieces: [&[u8]; 6] = [b"octets 0", b"1", b"", b" 02", b"", b""];
-    let mut words = Words::new(Pieces { pieces: &pieces });
+    let mut words = Words::new(Pieces {
+        pieces: &pieces,
+        given: 0,
+    });
     assert_eq!(rt; words.next()?, Token::Word);
     assert_eq!(rt; words.word().bytes(), b"octets".as_slice());
     assert_eq!(rt; words.next_octet()?, Some(1));
@@ -39,7 +43,10 @@ fn an_end_ends_no_script(rt: HostRuntime) -> Result<(), RunError> {
 #[test]
 fn a_script_goes_on_behind_an_end(rt: HostRuntime) -> Result<(), RunError> {
     let pieces: [&[u8]; 5] = [b"a\n", b"", b"b # c", b"", b"\n"];
-    let mut words = Words::new(Pieces { pieces: &pieces });
+    let mut words = Words::new(Pieces {
+        pieces: &pieces,
+        given: 0,
+    });
     assert_eq!(rt; words.next()?, Token::Word);
     assert_eq!(rt; words.next()?, Token::LineEnd);
     assert_eq!(rt; words.next()?, Token::End);
